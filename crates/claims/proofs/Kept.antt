@@ -1,0 +1,168 @@
+-- What stays along a list of calls: the bytes are those of a table that is related to the tally. Assumes nothing.
+use Prim.Native.Nat.{ℕ, zero, suc, _≤_}
+use native.Mathlib.Omega.{arith}
+use mathlib.Core.Path.{_≡_, refl, sym, ap, _∙_, subst}
+use mathlib.Core.Bool.{Bool, true, false, cond}
+use mathlib.Core.List.{List}
+use lib.ListN.{length}
+use lib.Dec.{eqb, eqb·suc-zero}
+use Rattle.model.specs.Clock.{placeOf}
+use Rattle.model.specs.Query.{qdcount, matched}
+use Rattle.model.specs.Table.{Table, tableBytes, readTable, sizeOf, slotsIn}
+use Rattle.model.specs.Rules.{holdings}
+use Rattle.model.specs.Sound.{soundBytes}
+use Rattle.model.specs.Serve.{movedOn}
+use Rattle.model.specs.Calls.{MakeCall, TickCall, ServeCall, makeRefusal, freshTable, madeBy, make, tickRefusal, tickedBy, tick, serveRefusal, tableBefore, tableAfter, servedBy, serve}
+use Rattle.model.specs.Meets.{model}
+use Rattle.model.proofs.TableLaws.{length-table}
+use Rattle.model.proofs.RoundTrip.{table-back}
+use Rattle.model.proofs.Meaning.{bytes-sound}
+use Rattle.claims.specs.Tally.{Tally, Call, making, ticking, serving, moveTally, judged, beginTally, doneTally, tallyAfter}
+use Rattle.claims.specs.Events.{Event, made, ticked, served, callOf, numberOf, tableOf, Happens, MakeInRange, ServeInRange, InRange}
+use Rattle.claims.specs.Demand3.{Agrees}
+use Rattle.claims.proofs.Relation.{Related}
+use Rattle.claims.proofs.Perm.{alike-is-perm}
+use Rattle.claims.proofs.MoveKeeps.{move-keeps}
+use Rattle.claims.proofs.Passed.{make-passed, make-judged, tick-passed, tick-judged, serve-passed, serve-judged, place-lt}
+use Rattle.claims.proofs.FreshTable.{fresh-related, size-is}
+use Rattle.claims.proofs.TallyLaws.{before-n}
+use Rattle.claims.proofs.DatagramKeeps.{datagram-keeps}
+
+-- THE INVARIANT: bytes of a table that is related to the tally, and of the buffer's length
+pub record Kept (size : ℕ) (b : List ℕ) (y : Tally) : Type 0 where
+  pub table : Table
+  pub bytes : tableBytes table ≡ b
+  pub related : Related table y
+  pub room : sizeOf (y .n) ≡ size
+
+module _ {size : ℕ} {b : List ℕ} {y : Tally} (k : Kept size b y) where
+  pub kept-sound : soundBytes b ≡ true
+  kept-sound = subst (λ (x : List ℕ). soundBytes x ≡ true) (k .bytes) (bytes-sound (k .table) (k .related .sound) (k .related .fits))
+
+  pub kept-back : readTable b ≡ k .table
+  kept-back = subst (λ (x : List ℕ). readTable x ≡ k .table) (k .bytes) (table-back (k .table) (k .related .sound .lines) (k .related .fits))
+
+  pub kept-length : length b ≡ size
+  kept-length =
+      let e = length-table (k .table) (k .related .sound .lines) (k .related .fits) in
+      sym (ap length (k .bytes)) ∙ e ∙ ap sizeOf (k .related .n) ∙ k .room
+
+  pub kept-agrees : Agrees b y
+  kept-agrees =
+      record {
+        stored = record { table = k .table; sound = k .related .sound; fits = k .related .fits; bytes = k .bytes };
+        place = k .related .place;
+        running = k .related .running;
+        n = k .related .n;
+        roster = k .related .roster;
+        entries = alike-is-perm (holdings (k .table)) (y .holdings) (k .related .entries);
+      }
+
+-- MAKING
+
+pub make-kept : (c : MakeCall) (b : List ℕ) → MakeInRange c → makeRefusal c (length b) ≡ 0
+    → Kept (length b) (tableBytes (freshTable c (slotsIn (length b)))) (beginTally (length b) c)
+make-kept c b range e =
+    let p = make-passed c (length b) e in
+    record {
+      table = freshTable c (slotsIn (length b));
+      bytes = refl;
+      related = fresh-related c (length b) p (range .roster);
+      room = sym (size-is (length b) (p .room));
+    }
+
+-- the tally after a call of number k
+abbrev next : ℕ → ℕ → Tally → Call → Tally
+next k size y c = cond (eqb k 0) (doneTally size y c) y
+
+after-is : (size : ℕ) (y : Tally) (c : Call) (k : ℕ) → judged size c ≡ k → tallyAfter size y c ≡ next k size y c
+unfolding tallyAfter
+after-is size y c k e = ap (λ (k : ℕ). next k size y c) e
+
+refused : {size : ℕ} {b : List ℕ} {y : Tally} (k : ℕ) (c : Call) → Kept size b y → Kept size b (next (suc k) size y c)
+refused {size} {b} {y} k c x = rw (eqb·suc-zero k) x
+
+made-next : (size : ℕ) (b : List ℕ) (y : Tally) (c : MakeCall) → MakeInRange c → Kept size b y → (k : ℕ) → makeRefusal c (length b) ≡ k
+    → Kept size (madeBy k c b .table) (next k size y (making c))
+made-next size b y c range x zero e =
+    subst (λ (n : ℕ). Kept n (tableBytes (freshTable c (slotsIn (length b)))) (beginTally n c)) (kept-length x) (make-kept c b range e)
+made-next size b y c range x (suc k) e = refused k (making c) x
+
+pub made-number : (k : ℕ) (c : MakeCall) (b : List ℕ) → madeBy k c b .number ≡ k
+made-number zero c b = refl
+made-number (suc k) c b = refl
+
+-- TICKING
+
+ticked-next : (size : ℕ) (b : List ℕ) (y : Tally) (c : TickCall) → Kept size b y → (k : ℕ) → tickRefusal c b ≡ k
+    → Kept size (tickedBy k c b .table) (next k size y (ticking c))
+unfolding moveTally
+ticked-next size b y c x zero e =
+    let at = placeOf (c .week) (c .second) in
+    record {
+      table = movedOn (x .table) at;
+      bytes = ap (λ (t : Table). tableBytes (movedOn t at)) (sym (kept-back x));
+      related = move-keeps (x .table) y at (place-lt (c .week) (c .second) (tick-passed c b e)) (x .related);
+      room = x .room;
+    }
+ticked-next size b y c x (suc k) e = refused k (ticking c) x
+
+ticked-number : (k : ℕ) (c : TickCall) (b : List ℕ) → tickedBy k c b .number ≡ k
+ticked-number zero c b = refl
+ticked-number (suc k) c b = refl
+
+-- SERVING
+
+done-most : (d : List ℕ) → cond (matched d) (qdcount d) 0 ≤ qdcount d
+done-most d = go (matched d)
+  where
+    go : (v : Bool) → cond v (qdcount d) 0 ≤ qdcount d
+    go true = omega arith
+    go false = omega arith
+
+served-next : (size : ℕ) (b lent : List ℕ) (y : Tally) (c : ServeCall) → ServeInRange c → Kept size b y → (k : ℕ) → serveRefusal c b ≡ k
+    → Kept size (servedBy k c b lent .table) (next k size y (serving c))
+unfolding tableAfter
+served-next size b lent y c range x zero e =
+    let p = serve-passed c b e in
+    let i = cond (matched (c .datagram)) (qdcount (c .datagram)) 0 in
+    record {
+      table = tableBefore c (x .table) i;
+      bytes = ap (λ (t : Table). tableBytes (tableBefore c t i)) (sym (kept-back x));
+      related = datagram-keeps c (x .table) y range (p .reading) (p .questions) (x .related) i (done-most (c .datagram));
+      room = ap sizeOf (before-n c y i) ∙ x .room;
+    }
+served-next size b lent y c range x (suc k) e = refused k (serving c) x
+
+-- ONE CALL
+
+pub served-number : (k : ℕ) (c : ServeCall) (b lent : List ℕ) → servedBy k c b lent .number ≡ k
+served-number zero c b lent = refl
+served-number (suc k) c b lent = refl
+
+pub kept-step : (size : ℕ) (b : List ℕ) (y : Tally) (e : Event) → InRange (callOf e) → Kept size b y → Happens model b e
+    → Kept size (tableOf e) (tallyAfter size y (callOf e))
+unfolding make tick serve
+kept-step size b y (made c k after) range x h =
+    let j : makeRefusal c (length b) ≡ judged size (making c) = make-judged c (length b) ∙ ap (λ (n : ℕ). judged n (making c)) (kept-length x) in
+    subst (λ (a : List ℕ). Kept size a (tallyAfter size y (making c))) (sym (h .table))
+    (subst (Kept size (make c b .table)) (sym (after-is size y (making c) (makeRefusal c (length b)) (sym j)))
+    (made-next size b y c range x (makeRefusal c (length b)) refl))
+kept-step size b y (ticked c k freed after) range x h =
+    let j = tick-judged c b size (kept-sound x) in
+    subst (λ (a : List ℕ). Kept size a (tallyAfter size y (ticking c))) (sym (h .table))
+    (subst (Kept size (tick c b .table)) (sym (after-is size y (ticking c) (tickRefusal c b) (sym j)))
+    (ticked-next size b y c x (tickRefusal c b) refl))
+kept-step size b y (served c lent k n after left) range x h =
+    let j = serve-judged c b size (kept-sound x) in
+    subst (λ (a : List ℕ). Kept size a (tallyAfter size y (serving c))) (sym (h .1 .table))
+    (subst (Kept size (serve c b lent .table)) (sym (after-is size y (serving c) (serveRefusal c b) (sym j)))
+    (served-next size b lent y c range x (serveRefusal c b) refl))
+
+pub number-step : (size : ℕ) (b : List ℕ) (y : Tally) (e : Event) → Kept size b y → Happens model b e → numberOf e ≡ judged size (callOf e)
+unfolding make tick serve
+number-step size b y (made c k after) x h =
+    h .number ∙ made-number (makeRefusal c (length b)) c b ∙ make-judged c (length b) ∙ ap (λ (n : ℕ). judged n (making c)) (kept-length x)
+number-step size b y (ticked c k freed after) x h = h .number ∙ ticked-number (tickRefusal c b) c b ∙ tick-judged c b size (kept-sound x)
+number-step size b y (served c lent k n after left) x h =
+    h .1 .number ∙ served-number (serveRefusal c b) c b lent ∙ serve-judged c b size (kept-sound x)

@@ -1,0 +1,20 @@
+-- What ties a table to the tally along a list of calls. Assumes nothing.
+use Prim.Native.Nat.{ℕ}
+use mathlib.Core.Path.{_≡_}
+use mathlib.Core.Bool.{Bool}
+use lib.ListN.{length}
+use Rattle.model.specs.Lists.{count}
+use Rattle.model.specs.Table.{Table}
+use Rattle.model.specs.Rules.{Holding, holdings}
+use Rattle.model.specs.Sound.{Sound, Fits}
+use Rattle.claims.specs.Tally.{Tally}
+
+-- the same holdings, places aside: for every test, as many pass
+pub record Related (t : Table) (y : Tally) : Type 0 where
+  pub place : t .clock .place ≡ y .place
+  pub running : t .clock .running ≡ y .running
+  pub n : length (t .slots) ≡ y .n
+  pub roster : t .roster ≡ y .roster
+  pub entries : (p : Holding → Bool) → count (holdings t) p ≡ count (y .holdings) p
+  pub sound : Sound t
+  pub fits : Fits t

@@ -1,0 +1,59 @@
+-- Claim 3: a pending query is established exactly when it should be, from the table before a datagram to the table after. Assumes nothing.
+use Prim.Native.Nat.{ℕ, zero, suc, _+_, _*_, _≤_, _<_}
+use mathlib.Core.Path.{_≡_}
+use mathlib.Core.Bool.{Bool, true, false}
+use mathlib.Core.List.{List, [], _∷_}
+use mathlib.Core.Logic.{_≢_}
+use lib.ListN.{length}
+use Rattle.model.specs.Clock.{advance}
+use Rattle.model.specs.Query.{question, llqOption}
+use Rattle.model.specs.Table.{Entry, Slot, free, held, Table, readTable}
+use Rattle.model.specs.Sound.{SoundBytes}
+use Rattle.model.specs.Serve.{slotOf, establish}
+use Rattle.model.specs.Calls.{ServeCall}
+use Rattle.model.specs.Meets.{Server}
+use Rattle.claims.specs.Events.{ServeInRange}
+use Rattle.claims.specs.Changes.{RunOut, RightResponse, RightRefresh, doneOptions}
+
+-- option i of the datagram is a right response to the entry
+abbrev pub Answers : ServeCall → ℕ → Entry → Type 0
+Answers c i e = RightResponse (c .sender) (question (c .datagram) i) (llqOption (c .datagram) i) e
+
+-- option i is a right refresh of the entry, once established
+abbrev pub Refreshes : ServeCall → ℕ → Entry → Type 0
+Refreshes c i e = RightRefresh (c .sender) (question (c .datagram) i) (llqOption (c .datagram) i) (establish e)
+
+-- option i is the first of the datagram that is a right response to the entry
+pub record FirstAnswer (c : ServeCall) (i : ℕ) (e : Entry) : Type 0 where
+  pub within : i < doneOptions c
+  pub answers : Answers c i e
+  pub first : (k : ℕ) → k < i → Answers c k e → ⊥
+
+-- slot j has the entry, established, its lease and stamp aside
+pub record StillHeld (u : Table) (j : ℕ) (e : Entry) : Type 0 where
+  pub entry : Entry
+  pub here : slotOf u j ≡ held entry
+  pub established : entry .established ≡ true
+  pub number : entry .number ≡ e .number
+  pub address : entry .address ≡ e .address
+  pub port : entry .port ≡ e .port
+
+-- AN ENTRY e IN SLOT j, pending before an answered datagram and not run out at the moved count
+pub record Pending (c : ServeCall) (t : Table) (j : ℕ) (e : Entry) : Type 0 where
+  pub here : slotOf t j ≡ held e
+  pub pending : e .established ≡ false
+  pub live : RunOut (advance (t .clock) (c .week * 604800 + c .second) .running) e → ⊥
+
+-- what holds of it in the table after
+pub record Settled (c : ServeCall) (u : Table) (j : ℕ) (e : Entry) : Type 0 where
+  -- where no option is a right response it stays as it was
+  pub untouched : ((i : ℕ) → i < doneOptions c → Answers c i e → ⊥) → slotOf u j ≡ held e
+  -- where option i is the first that is, and none behind it refreshes the entry, it is established, and else as it was
+  pub established : (i : ℕ) → FirstAnswer c i e → ((k : ℕ) → i < k → k < doneOptions c → Refreshes c k e → ⊥) → slotOf u j ≡ held (establish e)
+  -- it is established still where some behind it refresh the entry, unless one of them ends it
+  pub stays : (i : ℕ) → FirstAnswer c i e → ((k : ℕ) → i < k → k < doneOptions c → Refreshes c k e → llqOption (c .datagram) k .lease ≢ 0) → StillHeld u j e
+
+abbrev pub EstablishedExactly : Server → Type 0
+EstablishedExactly s =
+    (c : ServeCall) (b lent : List ℕ) → ServeInRange c → SoundBytes b → c .room ≡ length lent → s .serve c b lent .number ≡ 0
+    → (j : ℕ) (e : Entry) → Pending c (readTable b) j e → Settled c (readTable (s .serve c b lent .table)) j e

@@ -1,0 +1,195 @@
+-- Wrong servers: document 01's impostors and the old box's five faults, each the model with one part wrong. Assumes nothing.
+use Prim.Native.Nat.{ℕ, zero, suc, _+_, _-_, _%_, _^_}
+use mathlib.Core.Bool.{Bool, true, false, not, cond, _&&_, _||_}
+use mathlib.Core.List.{List, [], _∷_, _++_, map}
+use lib.ListN.{length, getD, drop}
+use lib.Dec.{eqb, leb}
+use Rattle.model.specs.Lists.{count, any, indexOf, upTo}
+use Rattle.model.specs.Clock.{advance, placeOf, ageAt}
+use Rattle.model.specs.Query.{Question, LlqOption, question, llqOption, qdcount, matched}
+use Rattle.model.specs.Table.{Line, Entry, Slot, free, held, Table, tableBytes, readTable}
+use Rattle.model.specs.Rules.{Holding, Counts, holding, holdings, asks, numbered, heldBy, limitOf, shareOf, reserve}
+use Rattle.model.specs.Serve.{Sender, Outcome, Served, Kind, badVersion, badFormat, setup, response, refresh, withClock, withSlots, withSlot, isFree, findEntry, slotOf, freeIfRunOut, slotRunOut, movedOn, kindOfOption, serveOption, serveKind, onSetup, onResponse, rightLease, challenge, retryLater, granted, newEntry}
+use Rattle.model.specs.Reply.{replyBytes, replyLength, mismatch}
+use Rattle.model.specs.Calls.{MakeCall, TickCall, ServeCall, Made, Ticked, Answered, make, tick, serve, freedBy, tickRefusal, serveRefusal}
+use Rattle.model.specs.Meets.{Server}
+use Rattle.claims.specs.Pins.{challenge as w11Reply}
+
+-- what an option does
+abbrev pub Does : Type 0
+Does = Sender → ℕ → Question → LlqOption → Table → Served
+
+-- A SERVER FROM ITS PARTS: how a call moves the table on, how many entries that frees, and what one option does
+pub record Parts : Type 0 where
+  pub moves : Table → ℕ → Table
+  pub option : Does
+
+-- the model's parts
+abbrev pub right : Parts
+right = record { moves = movedOn; option = serveOption }
+
+module _ (p : Parts) where
+  unfoldable pub tableWith : ServeCall → Table → ℕ → Table
+  tableWith c t zero = p .moves t (placeOf (c .week) (c .second))
+  tableWith c t (suc i) = p .option (c .sender) (c .random) (question (c .datagram) i) (llqOption (c .datagram) i) (tableWith c t i) .table
+
+  abbrev pub outcomeWith : ServeCall → Table → ℕ → Outcome
+  outcomeWith c t i = p .option (c .sender) (c .random) (question (c .datagram) i) (llqOption (c .datagram) i) (tableWith c t i) .outcome
+
+  abbrev pub tableAfterWith : ServeCall → Table → Table
+  tableAfterWith c t = tableWith c t (cond (matched (c .datagram)) (qdcount (c .datagram)) 0)
+
+  abbrev pub outcomesWith : ServeCall → Table → List Outcome
+  outcomesWith c t = cond (matched (c .datagram)) (upTo (qdcount (c .datagram)) (outcomeWith c t)) (mismatch ∷ [])
+
+  abbrev pub tickWith : ℕ → TickCall → List ℕ → Ticked
+  tickWith zero c b =
+      let at = placeOf (c .week) (c .second) in
+      record {
+        number = 0;
+        freed = count (holdings (readTable b)) any - count (holdings (p .moves (readTable b) at)) any;
+        table = tableBytes (p .moves (readTable b) at);
+      }
+  tickWith (suc k) c b = record { number = suc k; freed = 0; table = b }
+
+  abbrev pub serveWith : ℕ → ServeCall → List ℕ → List ℕ → Answered
+  serveWith zero c b lent =
+      let d = c .datagram in
+      record {
+        number = 0;
+        length = replyLength d;
+        table = tableBytes (tableAfterWith c (readTable b));
+        reply = replyBytes d (outcomesWith c (readTable b)) ++ drop (replyLength d) lent;
+      }
+  serveWith (suc k) c b lent = record { number = suc k; length = 0; table = b; reply = lent }
+
+  abbrev pub serverOf : Server
+  serverOf = record { make = make; tick = λ c b. tickWith (tickRefusal c b) c b; serve = λ c b lent. serveWith (serveRefusal c b) c b lent }
+
+abbrev pub withOption : Does → Server
+withOption f = serverOf (record { moves = movedOn; option = f })
+
+abbrev pub withMove : (Table → ℕ → Table) → Server
+withMove f = serverOf (record { moves = f; option = serveOption })
+
+-- DOCUMENT 01'S IMPOSTORS
+
+abbrev pub refusesAll : Server
+refusesAll =
+    record {
+      make = λ c b. record { number = 2; table = b };
+      tick = λ c b. record { number = 2; freed = 0; table = b };
+      serve = λ c b lent. record { number = 2; length = 0; table = b; reply = lent };
+    }
+
+-- one constant reply, W11's
+abbrev pub constantReply : Server
+constantReply =
+    record {
+      make = make;
+      tick = tick;
+      serve = λ c b lent. let a = serve c b lent in
+          record { number = a .number; length = a .length; table = a .table; reply = cond (eqb (a .number) 0) (w11Reply ++ drop 52 lent) lent };
+    }
+
+-- an option by its kind, with these for setup and response
+abbrev pub byKind : Does → Does → Kind → Does
+byKind f g badVersion s r q o t = serveKind badVersion s r q o t
+byKind f g badFormat s r q o t = serveKind badFormat s r q o t
+byKind f g setup s r q o t = f s r q o t
+byKind f g response s r q o t = g s r q o t
+byKind f g refresh s r q o t = serveKind refresh s r q o t
+
+-- a setup, with this where it finds no entry
+abbrev pub onNew : Does → Sender → ℕ → Question → LlqOption → Table → Slot → Served
+onNew f s r q o t (held e) = onSetup s r q o t (held e)
+onNew f s r q o t free = f s r q o t
+
+abbrev pub withNew : Does → Server
+withNew f =
+    withOption
+    (λ s r q o t.
+    byKind (λ s r q o t. onNew f s r q o t (slotOf t (findEntry (asks (s .address) (s .port) q) t))) (serveKind response) (kindOfOption o) s r q o t)
+
+-- says full to everyone
+abbrev pub saysFull : Server
+saysFull = withNew (λ s r q o t. record { table = t; outcome = retryLater o })
+
+-- leaves the table untouched
+abbrev pub leavesTable : Server
+leavesTable =
+    record {
+      make = make;
+      tick = tick;
+      serve = λ c b lent. let a = serve c b lent in record { number = a .number; length = a .length; table = b; reply = a .reply };
+    }
+
+-- serves question one and copies its option for the rest
+abbrev pub copiesFirst : Server
+copiesFirst =
+    record {
+      make = make;
+      tick = tick;
+      serve = λ c b lent. let a = serve c b lent in
+          record {
+            number = a .number;
+            length = a .length;
+            table = a .table;
+            reply =
+                cond (eqb (a .number) 0 && matched (c .datagram))
+                (replyBytes (c .datagram) (upTo (qdcount (c .datagram)) (λ i. outcomeWith right c (readTable b) 0)) ++ drop (a .length) lent)
+                (a .reply);
+          };
+    }
+
+-- a tick that reports an invented number
+abbrev pub inventsFreed : Server
+inventsFreed =
+    record { make = make; tick = λ c b. let a = tick c b in record { number = a .number; freed = 1 + a .freed; table = a .table }; serve = serve }
+
+-- grants without storing
+abbrev pub grantsUnstored : Server
+grantsUnstored = withNew (λ s r q o t. record { table = t; outcome = onSetup s r q o t free .outcome })
+
+-- THE OLD BOX
+
+-- entries freed by another test of the running count and the entry
+abbrev pub freeWhere : (ℕ → Entry → Bool) → ℕ → Slot → Slot
+freeWhere f running free = free
+freeWhere f running (held e) = cond (f running e) free (held e)
+
+abbrev pub moveWhere : (ℕ → Entry → Bool) → Table → ℕ → Table
+moveWhere f t place =
+    let c = advance (t .clock) place in record { clock = c; roster = t .roster; slots = map (freeWhere f (c .running)) (t .slots) }
+
+-- compares the count with stamp plus lease
+abbrev pub comparesSum : Server
+comparesSum = withMove (moveWhere (λ running e. leb ((e .stamp + e .lease) % 2 ^ 32) running))
+
+-- throws pending entries out early, after 15 seconds
+abbrev pub dropsPending : Server
+dropsPending = withMove (moveWhere (λ running e. leb (e .lease) (ageAt running (e .stamp)) || (not (e .established) && leb 15 (ageAt running (e .stamp)))))
+
+-- full or granted, by a test of the table and the sender
+abbrev pub fullWhere : (Table → Sender → Bool) → Server
+fullWhere f = withNew (λ s r q o t. cond (f t s) (record { table = t; outcome = retryLater o }) (granted s r q o t))
+
+-- grants whenever a slot is free
+abbrev pub grantsIfFree : Server
+grantsIfFree = fullWhere (λ t s. eqb (count (t .slots) isFree) 0)
+
+-- counts holdings by address and port
+abbrev pub countsByPort : Server
+countsByPort =
+    fullWhere
+    (λ t s.
+    let h = count (holdings t) (λ x. eqb (x .address) (s .address) && eqb (x .port) (s .port)) in
+    leb (limitOf (t .roster) (s .address)) h
+    || (leb (shareOf (t .roster) (s .address)) h && leb (count (t .slots) isFree) (reserve (t .roster) (count (holdings t)))))
+
+-- finds entries by number alone
+abbrev pub findsByNumber : Server
+findsByNumber =
+    withOption
+    (λ s r q o t.
+    byKind (serveKind setup) (λ s r q o t. let i = findEntry (λ h. numbered (o .number) h && rightLease o h) t in onResponse o t i (slotOf t i)) (kindOfOption o) s r q o t)

@@ -1,0 +1,12 @@
+pub mod Tally
+pub mod Events
+pub mod Demand3
+pub mod Refusals
+pub mod Changes
+pub mod Established
+pub mod Tick
+pub mod Samples
+pub mod Pins
+pub mod Reply
+pub mod Impostors
+pub mod Repeats

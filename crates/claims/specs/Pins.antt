@@ -1,0 +1,104 @@
+-- W11, and the table's bytes after its making, its setup and its response, written out from document 01's layout. Assumes nothing.
+use Prim.Native.Nat.{ℕ, _+_, _*_, _^_}
+use mathlib.Core.Path.{_≡_}
+use mathlib.Core.List.{List, [], _∷_, _++_}
+use lib.ListN.{length, replicate}
+use Rattle.model.specs.Serve.{Sender}
+use Rattle.model.specs.Calls.{MakeCall, ServeCall}
+use Rattle.model.specs.Meets.{Server}
+
+abbrev pub zeros : ℕ → List ℕ
+zeros k = replicate k 0
+
+-- W11's query: message number 0x1234, RD, one question (a., PTR, IN), OPT, one LLQ option: a setup asking 3,600 seconds
+abbrev pub query : List ℕ
+query =
+    0x12 ∷ 0x34 ∷ 0x01 ∷ 0 ∷ 0 ∷ 1 ∷ 0 ∷ 0 ∷ 0 ∷ 0 ∷ 0 ∷ 1
+    ∷ 1 ∷ 0x61 ∷ 0 ∷ 0 ∷ 0x0C ∷ 0 ∷ 1
+    ∷ 0 ∷ 0 ∷ 0x29 ∷ 0x05 ∷ 0xC0 ∷ 0 ∷ 0 ∷ 0 ∷ 0 ∷ 0 ∷ 0x16
+    ∷ 0 ∷ 1 ∷ 0 ∷ 0x12 ∷ 0 ∷ 1 ∷ 0 ∷ 1 ∷ 0 ∷ 0 ∷ 0 ∷ 0 ∷ 0 ∷ 0 ∷ 0 ∷ 0 ∷ 0 ∷ 0 ∷ 0 ∷ 0 ∷ 0x0E ∷ 0x10 ∷ []
+
+-- W11's reply: the same but 0x85 for the third byte, and number 7
+abbrev pub challenge : List ℕ
+challenge =
+    0x12 ∷ 0x34 ∷ 0x85 ∷ 0 ∷ 0 ∷ 1 ∷ 0 ∷ 0 ∷ 0 ∷ 0 ∷ 0 ∷ 1
+    ∷ 1 ∷ 0x61 ∷ 0 ∷ 0 ∷ 0x0C ∷ 0 ∷ 1
+    ∷ 0 ∷ 0 ∷ 0x29 ∷ 0x05 ∷ 0xC0 ∷ 0 ∷ 0 ∷ 0 ∷ 0 ∷ 0 ∷ 0x16
+    ∷ 0 ∷ 1 ∷ 0 ∷ 0x12 ∷ 0 ∷ 1 ∷ 0 ∷ 1 ∷ 0 ∷ 0 ∷ 0 ∷ 0 ∷ 0 ∷ 0 ∷ 0 ∷ 0 ∷ 0 ∷ 7 ∷ 0 ∷ 0 ∷ 0x0E ∷ 0x10 ∷ []
+
+-- its response: the number and the granted lease repeated
+abbrev pub response : List ℕ
+response =
+    0x12 ∷ 0x35 ∷ 0x01 ∷ 0 ∷ 0 ∷ 1 ∷ 0 ∷ 0 ∷ 0 ∷ 0 ∷ 0 ∷ 1
+    ∷ 1 ∷ 0x41 ∷ 0 ∷ 0 ∷ 0x0C ∷ 0 ∷ 1
+    ∷ 0 ∷ 0 ∷ 0x29 ∷ 0x05 ∷ 0xC0 ∷ 0 ∷ 0 ∷ 0 ∷ 0 ∷ 0 ∷ 0x16
+    ∷ 0 ∷ 1 ∷ 0 ∷ 0x12 ∷ 0 ∷ 1 ∷ 0 ∷ 1 ∷ 0 ∷ 0 ∷ 0 ∷ 0 ∷ 0 ∷ 0 ∷ 0 ∷ 0 ∷ 0 ∷ 7 ∷ 0 ∷ 0 ∷ 0x0E ∷ 0x10 ∷ []
+
+-- its acknowledgment, three seconds after the setup: lease less age is 3,597
+abbrev pub acknowledgment : List ℕ
+acknowledgment =
+    0x12 ∷ 0x35 ∷ 0x85 ∷ 0 ∷ 0 ∷ 1 ∷ 0 ∷ 0 ∷ 0 ∷ 0 ∷ 0 ∷ 1
+    ∷ 1 ∷ 0x41 ∷ 0 ∷ 0 ∷ 0x0C ∷ 0 ∷ 1
+    ∷ 0 ∷ 0 ∷ 0x29 ∷ 0x05 ∷ 0xC0 ∷ 0 ∷ 0 ∷ 0 ∷ 0 ∷ 0 ∷ 0x16
+    ∷ 0 ∷ 1 ∷ 0 ∷ 0x12 ∷ 0 ∷ 1 ∷ 0 ∷ 1 ∷ 0 ∷ 0 ∷ 0 ∷ 0 ∷ 0 ∷ 0 ∷ 0 ∷ 0 ∷ 0 ∷ 7 ∷ 0 ∷ 0 ∷ 0x0E ∷ 0x0D ∷ []
+
+-- CALLS: made at week 1, second 2; asked at second 7; answered at second 10; from 192.0.2.1, mapped, port 5353; host number 7
+abbrev pub sender : Sender
+sender = record { address = 0xFFFF_C000_0201; port = 5353 }
+
+abbrev pub makeCall : MakeCall
+makeCall = record { week = 1; second = 2; roster = [] }
+
+abbrev pub setupCall : ServeCall
+setupCall = record { week = 1; second = 7; sender = sender; random = 7; datagram = query; room = 60 }
+
+abbrev pub responseCall : ServeCall
+responseCall = record { week = 1; second = 10; sender = sender; random = 9; datagram = response; room = 60 }
+
+-- THE TABLE of 4 slots, 1,593 bytes
+-- clock: kind 1, place 4, running count 4
+abbrev pub clockPin : ℕ → ℕ → List ℕ
+clockPin low running = 1 ∷ 0 ∷ 0x09 ∷ 0x3A ∷ low ∷ 0 ∷ 0 ∷ 0 ∷ running ∷ []
+
+abbrev pub unusedPin : List ℕ
+unusedPin = 2 ∷ zeros 18
+
+abbrev pub rosterPin : List ℕ
+rosterPin =
+    unusedPin ++ unusedPin ++ unusedPin ++ unusedPin ++ unusedPin ++ unusedPin ++ unusedPin ++ unusedPin ++ unusedPin ++ unusedPin ++ unusedPin ++ unusedPin ++ unusedPin
+    ++ unusedPin ++ unusedPin ++ unusedPin
+
+abbrev pub freePin : List ℕ
+freePin = 4 ∷ zeros 319
+
+-- kind; address 16, port 2, LLQ number 8, granted lease 4, stamp 4, type 2, class 2, name length 1, name 255, 25 zeros
+abbrev pub entryPin : ℕ → List ℕ
+entryPin kind =
+    kind
+    ∷ 0 ∷ 0 ∷ 0 ∷ 0 ∷ 0 ∷ 0 ∷ 0 ∷ 0 ∷ 0 ∷ 0 ∷ 0xFF ∷ 0xFF ∷ 0xC0 ∷ 0 ∷ 0x02 ∷ 0x01
+    ∷ 0x14 ∷ 0xE9
+    ∷ 0 ∷ 0 ∷ 0 ∷ 0 ∷ 0 ∷ 0 ∷ 0 ∷ 7
+    ∷ 0 ∷ 0 ∷ 0x0E ∷ 0x10
+    ∷ 0 ∷ 0 ∷ 0 ∷ 5
+    ∷ 0 ∷ 0x0C
+    ∷ 0 ∷ 1
+    ∷ 3
+    ∷ 1 ∷ 0x61 ∷ 0 ∷ (zeros 252 ++ zeros 25)
+
+-- place 604,802 and count 0; 604,807 and 5; 604,810 and 8
+abbrev pub madePin : List ℕ
+madePin = clockPin 0x82 0 ++ rosterPin ++ freePin ++ freePin ++ freePin ++ freePin
+
+abbrev pub pendingPin : List ℕ
+pendingPin = clockPin 0x87 5 ++ rosterPin ++ entryPin 5 ++ freePin ++ freePin ++ freePin
+
+abbrev pub establishedPin : List ℕ
+establishedPin = clockPin 0x8A 8 ++ rosterPin ++ entryPin 6 ++ freePin ++ freePin ++ freePin
+
+-- a server makes, challenges and acknowledges as written out; 8 bytes past each reply keep what they held
+pub record Pinned (s : Server) : Type 0 where
+  pub size : length madePin ≡ 1593
+  pub made : s .make makeCall (replicate 1593 0xEE) ≡ record { number = 0; table = madePin }
+  pub challenged : s .serve setupCall madePin (replicate 60 0xAA) ≡ record { number = 0; length = 52; table = pendingPin; reply = challenge ++ replicate 8 0xAA }
+  pub acknowledged : s .serve responseCall pendingPin (replicate 60 0xAA)
+      ≡ record { number = 0; length = 52; table = establishedPin; reply = acknowledgment ++ replicate 8 0xAA }

@@ -1,0 +1,64 @@
+-- Claim 6: document 01's samples W1 to W10, one table under one statement, of the definitions that contracts and claims cite. Assumes nothing.
+use Prim.Native.Nat.{ℕ, zero, suc, _+_, _^_}
+use mathlib.Core.Path.{_≡_}
+use mathlib.Core.Bool.{Bool, true, false}
+use mathlib.Core.List.{List, [], _∷_}
+use lib.ListN.{length}
+use lib.IntN.{ℤ, pos, negsuc}
+use Rattle.model.specs.Lists.{bit, count}
+use Rattle.model.specs.Clock.{step, ageAt, runOut}
+use Rattle.model.specs.Query.{Question, LlqOption}
+use Rattle.model.specs.Table.{Line, Entry, Slot, free, held, Table}
+use Rattle.model.specs.Rules.{entriesOf, grantedLease, freshNumber}
+use Rattle.model.specs.Serve.{Sender, Served, isFree, serveOption}
+
+-- an established entry with this number
+abbrev pub entryNumbered : ℕ → Entry
+entryNumbered x =
+    record { established = true; address = 8; port = 5353; number = x; lease = 60; stamp = 0; qtype = 12; qclass = 1; name = 1 ∷ 97 ∷ 0 ∷ [] }
+
+-- W9: 2^64 − 1 is in use, and 1 is not
+abbrev pub w9 : ℕ
+w9 = freshNumber 3 (count (entriesOf 0 (held (entryNumbered 18446744073709551615) ∷ []))) 18446744073709551615
+
+-- W10: four slots, one line with share 3 (limit 3) holding 0, an unlisted address that holds 0
+abbrev pub w10Table : Table
+w10Table =
+    record {
+      clock = record { place = 0; running = 0 };
+      roster = record { address = 7; share = 3; limit = 3 } ∷ [];
+      slots = free ∷ free ∷ free ∷ free ∷ [];
+    }
+
+-- a setup from address 9 for the name of one letter, asking 3,600 seconds
+abbrev pub w10Setup : ℕ → Table → Served
+w10Setup letter t =
+    serveOption (record { address = 9; port = 5353 }) 7 (record { name = 1 ∷ letter ∷ 0 ∷ []; qtype = 12; qclass = 1 })
+    (record { version = 1; opcode = 1; error = 0; number = 0; lease = 3600 }) t
+
+abbrev pub w10First : Served
+w10First = w10Setup 97 w10Table
+
+-- computed beside expected
+abbrev pub samples : List (ℤ × ℤ)
+samples =
+    (step 619315199 0, pos 1)  -- W1
+    ∷ (step 0 309657600, negsuc 309657599)  -- W2: −309,657,600
+    ∷ (step 10 9, negsuc 0)  -- W3: −1
+    ∷ (pos (ageAt 4 4294967290), pos 10)  -- W4
+    ∷ (pos (bit (runOut 59 60)), pos 0)  -- W5: live
+    ∷ (pos (bit (runOut 60 60)), pos 1)  -- W6: run out
+    ∷ (pos (grantedLease 0), pos 60)  -- W7
+    ∷ (pos (grantedLease 7201), pos 7200)  -- W8
+    ∷ (pos w9, pos 1)  -- W9
+    ∷ (pos (w10First .outcome .error), pos 0)  -- W10: the first setup is granted,
+    ∷ (pos (count (w10First .table .slots) isFree), pos 3)  -- free 3;
+    ∷ (pos (w10Setup 98 (w10First .table) .outcome .error), pos 1)  -- a second: error 1
+    ∷ []
+
+abbrev pub Agree : List (ℤ × ℤ) → Type 0
+Agree [] = Unit {0}
+Agree (r ∷ rs) = (r .0 ≡ r .1) × Agree rs
+
+abbrev pub Samples : Type 0
+Samples = Agree samples

@@ -1,0 +1,1 @@
+// Theorems about the model: see specs/ for the statements and proofs/ for the proofs.

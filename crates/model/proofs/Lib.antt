@@ -1,0 +1,13 @@
+pub mod NumberLaws
+pub mod ListLaws
+pub mod SlotLaws
+pub mod TableLaws
+pub mod RoundTrip
+pub mod Facts
+pub mod Meaning
+pub mod Integers
+pub mod ClockLaws
+pub mod NameLaws
+pub mod HoldingLaws
+pub mod FreshLaws
+pub mod StepLaws

@@ -1,0 +1,96 @@
+-- What bytes are read as fits its fields, and sound bytes are the bytes of a sound table. Assumes nothing.
+use Prim.Native.Nat.{ℕ, _+_, _≤_}
+use native.Mathlib.Omega.{arith}
+use mathlib.Core.Path.{_≡_, refl, sym, ap, _∙_}
+use mathlib.Core.Bool.{Bool, true, false, cond, _||_}
+use mathlib.Core.List.{List}
+use lib.ListN.{length, getD, length-take}
+use lib.Dec.{eqb}
+use Rattle.model.specs.Lists.{same}
+use Rattle.model.specs.Numbers.{Bytes, part}
+use Rattle.model.specs.Table.{free, held, Table, tableBytes, readTable, readSlot, readLine, readEntry, slotAt, lineAt, listed, slotsIn, sizeOf}
+use Rattle.model.specs.Sound.{FitsEntry, FitsSlot, FitsLine, Fits, Sound, SoundBytes, soundTable, soundBytes}
+use Rattle.model.proofs.NumberLaws.{big-lt, bytes-part}
+use Rattle.model.proofs.ListLaws.{and-left, and-right, same-true, same-refl, length-upTo, getD-upTo}
+use Rattle.model.proofs.TableLaws.{length-table}
+use Rattle.model.proofs.RoundTrip.{noLine, table-back, listed-le}
+use Rattle.model.proofs.Facts.{sound-facts, facts-sound}
+
+-- bytes are read as values that fit
+module _ (b : List ℕ) (bytes : Bytes b) where
+  pub fits-line : (at : ℕ) → FitsLine (readLine b at)
+  unfolding readLine
+  fits-line at = record { address = big-lt b (at + 1) 16 bytes; share = bytes (at + 17); limit = bytes (at + 18) }
+
+  pub fits-entry : (at : ℕ) → FitsEntry (readEntry b at)
+  unfolding readEntry part
+  fits-entry at =
+      record {
+        address = big-lt b (at + 1) 16 bytes;
+        port = big-lt b (at + 17) 2 bytes;
+        number = big-lt b (at + 19) 8 bytes;
+        lease = big-lt b (at + 27) 4 bytes;
+        stamp = big-lt b (at + 31) 4 bytes;
+        qtype = big-lt b (at + 35) 2 bytes;
+        qclass = big-lt b (at + 37) 2 bytes;
+        size = simp length-take (omega (arith, bytes (at + 39)));
+        bytes = bytes-part (at + 40) (getD b (at + 39) 0) b bytes;
+      }
+
+  pub fits-slot : (at : ℕ) → FitsSlot (readSlot b at)
+  unfolding readSlot
+  fits-slot at = go (eqb (getD b at 0) 5 || eqb (getD b at 0) 6)
+    where
+      go : (v : Bool) → FitsSlot (cond v (held (readEntry b at)) free)
+      go true = fits-entry at
+      go false = tt
+
+  pub fits-read : Fits (readTable b)
+  unfolding readTable
+  fits-read =
+      record {
+        place = big-lt b 1 4 bytes;
+        running = big-lt b 5 4 bytes;
+        lines = λ i l.
+            let m = (rw (length-upTo (listed b 16) (λ j. readLine b (lineAt j))) at l) in
+            rw (getD-upTo (listed b 16) (λ j. readLine b (lineAt j)) i noLine m) (fits-line (lineAt i));
+        slots = λ i l.
+            let m = (rw (length-upTo (slotsIn (length b)) (λ j. readSlot b (slotAt j))) at l) in
+            rw (getD-upTo (slotsIn (length b)) (λ j. readSlot b (slotAt j)) i free m) (fits-slot (slotAt i));
+      }
+
+pub lines-read : (b : List ℕ) → length (readTable b .roster) ≤ 16
+unfolding readTable
+lines-read b = rw (length-upTo (listed b 16) (λ j. readLine b (lineAt j))) (listed-le b 16)
+
+pub slots-read : (b : List ℕ) → length (readTable b .slots) ≡ slotsIn (length b)
+unfolding readTable
+slots-read b = length-upTo (slotsIn (length b)) (λ j. readSlot b (slotAt j))
+
+-- SOUND BYTES are the bytes of a sound table
+
+-- they are those of the table that they are read as
+pub bytes-back : (b : List ℕ) → soundBytes b ≡ true → tableBytes (readTable b) ≡ b
+unfolding soundBytes
+bytes-back b h = same-true (tableBytes (readTable b)) b (and-left (same (tableBytes (readTable b)) b) (soundTable (readTable b)) h)
+
+pub table-sound : (b : List ℕ) → soundBytes b ≡ true → Sound (readTable b)
+unfolding soundBytes
+table-sound b h = sound-facts (readTable b) (and-right (same (tableBytes (readTable b)) b) (soundTable (readTable b)) h)
+
+pub sound-means : (b : List ℕ) → Bytes b → soundBytes b ≡ true → SoundBytes b
+sound-means b bytes h = record { table = readTable b; sound = table-sound b h; fits = fits-read b bytes; bytes = bytes-back b h }
+
+pub means-sound : (b : List ℕ) → SoundBytes b → soundBytes b ≡ true
+unfolding soundBytes
+means-sound b s =
+    let back : readTable b ≡ s .table = ap readTable (sym (s .bytes)) ∙ table-back (s .table) (s .sound .lines) (s .fits) in
+    rw (back, s .bytes, same-refl b) (facts-sound (s .table) (s .sound))
+
+-- the bytes of a sound table are sound
+pub bytes-sound : (t : Table) → Sound t → Fits t → soundBytes (tableBytes t) ≡ true
+bytes-sound t s f = means-sound (tableBytes t) (record { table = t; sound = s; fits = f; bytes = refl })
+
+-- sound bytes have a right length
+pub length-sound : (b : List ℕ) → Bytes b → soundBytes b ≡ true → length b ≡ sizeOf (length (readTable b .slots))
+length-sound b bytes h = sym (ap length (bytes-back b h)) ∙ length-table (readTable b) (lines-read b) (fits-read b bytes)

@@ -1,0 +1,143 @@
+-- The table's bytes: their length, and what a slot or the clock written over makes of them. Assumes nothing.
+use Prim.Native.Nat.{ℕ, suc, _+_, _-_, _*_, _≤_, _<_}
+use native.Mathlib.Omega.{arith}
+use mathlib.Core.Path.{_≡_, refl, sym, ap, _∙_}
+use mathlib.Core.List.{List, [], _∷_, _++_, append-assoc}
+use lib.ListN.{length, getD, take, drop, set, replicate, length-append}
+use lib.Seq.{split-at, set-split, take-at, drop-at, length-take-le, getD-take}
+use lib.Dec.{lit<}
+use Rattle.model.specs.Lists.{upTo, flat}
+use Rattle.model.specs.Numbers.{Bytes, splice, encode}
+use Rattle.model.specs.Clock.{Clock}
+use Rattle.model.specs.Table.{Line, Slot, free, held, Table, slotBytes, lineBytes, unusedLine, rosterBytes, clockBytes, tableBytes, slotAt, sizeOf}
+use Rattle.model.specs.Sound.{FitsSlot, Fits}
+use Rattle.model.specs.Serve.{withSlot, withClock}
+use Rattle.model.proofs.NumberLaws.{length-encode, encode-first, bytes-nil, bytes-append, bytes-cons, bytes-encode, bytes-zeros}
+use Rattle.model.proofs.ListLaws.{getD-any, length-upTo, flat-append, length-flat}
+use Rattle.model.proofs.SlotLaws.{fits-short, length-slot, length-line}
+
+-- ROWS of one width
+module _ {A : Type 0} (f : A → List ℕ) where
+  pub flat-cut : (l : List A) (i : ℕ) (d : A) → i < length l → flat f l ≡ flat f (take i l) ++ (f (getD l i d) ++ flat f (drop (suc i) l))
+  unfolding flat
+  flat-cut l i d h = ap (flat f) (split-at l i d h) ∙ flat-append f (take i l) (getD l i d ∷ drop (suc i) l)
+
+  module _ (w : ℕ) (l : List A) (ok : (i : ℕ) (d : A) → i < length l → length (f (getD l i d)) ≡ w) where
+    pub length-front : (i : ℕ) → i ≤ length l → length (flat f (take i l)) ≡ w * i
+    length-front i h =
+        let e : length (take i l) ≡ i = length-take-le i l h in
+        length-flat f w (take i l) (λ j d m. let m' : j < i = rw e at m in rw (getD-take i l j d m') (ok j d (omega arith))) ∙ ap (λ (k : ℕ). w * k) e
+
+    -- a row replaced, behind a head of k bytes
+    pub flat-set : (p : List ℕ) (k i : ℕ) (x : A) → length p ≡ k → i < length l → splice (k + w * i) w (f x) (p ++ flat f l) ≡ p ++ flat f (set l i x)
+    unfolding splice flat
+    flat-set p k i x pk h =
+        let e : flat f l ≡ flat f (take i l) ++ (f (getD l i x) ++ flat f (drop (suc i) l)) = flat-cut l i x h in
+        let s : flat f (set l i x) ≡ flat f (take i l) ++ (f x ++ flat f (drop (suc i) l)) =
+        ap (flat f) (set-split l i x h) ∙ flat-append f (take i l) (x ∷ drop (suc i) l) in
+        let lp : length (p ++ flat f (take i l)) ≡ k + w * i = length-append p (flat f (take i l)) ∙ (rw (pk, length-front i (omega arith))) in
+        let lq : length ((p ++ flat f (take i l)) ++ f (getD l i x)) ≡ k + w * i + w =
+        length-append (p ++ flat f (take i l)) (f (getD l i x)) ∙ (rw (lp, ok i x h)) in
+        let whole : p ++ flat f l ≡ (p ++ flat f (take i l)) ++ (f (getD l i x) ++ flat f (drop (suc i) l)) = rw (e, append-assoc) in
+        let whole2 : p ++ flat f l ≡ ((p ++ flat f (take i l)) ++ f (getD l i x)) ++ flat f (drop (suc i) l) =
+        rw (whole, append-assoc (p ++ flat f (take i l)) (f (getD l i x)) (flat f (drop (suc i) l))) in
+        let front : take (k + w * i) (p ++ flat f l) ≡ p ++ flat f (take i l) =
+        ap (take (k + w * i)) whole ∙ take-at (p ++ flat f (take i l)) (f (getD l i x) ++ flat f (drop (suc i) l)) (k + w * i) lp in
+        let back : drop (k + w * i + w) (p ++ flat f l) ≡ flat f (drop (suc i) l) =
+        ap (drop (k + w * i + w)) whole2 ∙ drop-at ((p ++ flat f (take i l)) ++ f (getD l i x)) (flat f (drop (suc i) l)) (k + w * i + w) lq in
+        rw (front, back, s, append-assoc)
+
+-- LENGTHS
+pub length-roster : (ls : List Line) → length ls ≤ 16 → length (rosterBytes ls) ≡ 304
+unfolding rosterBytes unusedLine
+length-roster ls h =
+    let l1 = length-flat lineBytes 19 ls (λ i d l. length-line (getD ls i d)) in
+    let l2 = length-flat (λ (i : ℕ). unusedLine) 19 (upTo (16 - length ls) (λ i. i)) (λ i d l. refl) in
+    let l3 : length (upTo (16 - length ls) (λ i. i)) ≡ 16 - length ls = length-upTo (16 - length ls) (λ i. i) in
+    rw (length-append, l1, l2, l3) (omega arith)
+
+pub length-clock : (c : Clock) → length (clockBytes c) ≡ 9
+unfolding clockBytes
+length-clock c = length-encode _
+
+-- ALL ARE BYTES
+
+pub bytes-slot : (s : Slot) → FitsSlot s → Bytes (slotBytes s)
+unfolding slotBytes
+bytes-slot free f = bytes-cons 4 (replicate 319 0) (lit< tt) (bytes-zeros 319)
+bytes-slot (held e) f =
+    bytes-append (encode _) (e .name ++ replicate (280 - length (e .name)) 0) (bytes-encode _)
+    (bytes-append (e .name) (replicate (280 - length (e .name)) 0) (f .bytes) (bytes-zeros (280 - length (e .name))))
+
+bytes-flat : {A : Type 0} (f : A → List ℕ) (d : A) (l : List A) → ((i : ℕ) → i < length l → Bytes (f (getD l i d))) → Bytes (flat f l)
+unfolding flat
+bytes-flat f d [] h = bytes-nil
+bytes-flat f d (x ∷ l) h = bytes-append (f x) (flat f l) (h 0 (omega arith)) (bytes-flat f d l (λ i m. h (suc i) (omega arith)))
+
+bytes-line : (l : Line) → Bytes (lineBytes l)
+unfolding lineBytes
+bytes-line l = bytes-encode _
+
+bytes-unused : Bytes unusedLine
+unfolding unusedLine
+bytes-unused = bytes-cons 2 (replicate 18 0) (lit< tt) (bytes-zeros 18)
+
+pub bytes-roster : (ls : List Line) → Bytes (rosterBytes ls)
+unfolding rosterBytes
+bytes-roster ls =
+    bytes-append (flat lineBytes ls) (flat (λ (i : ℕ). unusedLine) (upTo (16 - length ls) (λ i. i)))
+    (bytes-flat lineBytes (record { address = 0; share = 0; limit = 0 }) ls (λ i m. bytes-line _))
+    (bytes-flat (λ (i : ℕ). unusedLine) 0 (upTo (16 - length ls) (λ i. i)) (λ i m. bytes-unused))
+
+bytes-clock : (c : Clock) → Bytes (clockBytes c)
+unfolding clockBytes
+bytes-clock c = bytes-encode _
+
+pub bytes-table : (t : Table) → Fits t → Bytes (tableBytes t)
+unfolding tableBytes
+bytes-table t f =
+    bytes-append (clockBytes (t .clock)) (rosterBytes (t .roster) ++ flat slotBytes (t .slots)) (bytes-clock (t .clock))
+    (bytes-append (rosterBytes (t .roster)) (flat slotBytes (t .slots)) (bytes-roster (t .roster))
+    (bytes-flat slotBytes free (t .slots) (λ i m. bytes-slot (getD (t .slots) i free) (f .slots i m))))
+
+-- WRITTEN OVER
+
+module _ (t : Table) (lines : length (t .roster) ≤ 16) (f : Fits t) where
+  pub fits-rows : (i : ℕ) (d : Slot) → i < length (t .slots) → length (slotBytes (getD (t .slots) i d)) ≡ 320
+  fits-rows i d l = rw (getD-any (t .slots) i d free l) (length-slot (getD (t .slots) i free) (fits-short (getD (t .slots) i free) (f .slots i l)))
+
+  length-head : length (clockBytes (t .clock) ++ rosterBytes (t .roster)) ≡ 313
+  length-head = rw (length-append, length-clock (t .clock), length-roster (t .roster) lines)
+
+  pub length-table : length (tableBytes t) ≡ sizeOf (length (t .slots))
+  unfolding tableBytes
+  length-table =
+      rw (length-append, length-append, length-clock (t .clock), length-roster (t .roster) lines, length-flat slotBytes 320 (t .slots) fits-rows)
+      (omega arith)
+
+  -- slot i written over: the table with that slot
+  pub with-slot : (i : ℕ) (s : Slot) → i < length (t .slots) → splice (slotAt i) 320 (slotBytes s) (tableBytes t) ≡ tableBytes (withSlot t i s)
+  unfolding tableBytes
+  with-slot i s h =
+      sym (ap (splice (slotAt i) 320 (slotBytes s)) (append-assoc (clockBytes (t .clock)) (rosterBytes (t .roster)) (flat slotBytes (t .slots))))
+      ∙ flat-set slotBytes 320 (t .slots) fits-rows (clockBytes (t .clock) ++ rosterBytes (t .roster)) 313 i s length-head h
+      ∙ append-assoc (clockBytes (t .clock)) (rosterBytes (t .roster)) (flat slotBytes (set (t .slots) i s))
+
+-- the clock's 8 bytes written over: the table with that clock
+abbrev pub clockFields : Clock → List (ℕ × ℕ)
+clockFields c = (4, c .place) ∷ (4, c .running) ∷ []
+
+pub clock-starts : (c : Clock) → clockBytes c ≡ 1 ∷ encode (clockFields c)
+unfolding clockBytes
+clock-starts c = encode-first 1 (clockFields c) (lit< tt)
+
+over-clock : (c d : Clock) (q : List ℕ) → splice 1 8 (encode (clockFields d)) (clockBytes c ++ q) ≡ clockBytes d ++ q
+unfolding splice
+over-clock c d q =
+    let back : drop 9 (clockBytes c ++ q) ≡ q = drop-at (clockBytes c) q 9 (length-clock c) in
+    let front : take 1 (clockBytes c ++ q) ≡ 1 ∷ [] = ap (λ (z : List ℕ). take 1 (z ++ q)) (clock-starts c) in
+    rw (back, front, clock-starts d)
+
+pub with-clock : (t : Table) (c : Clock) → splice 1 8 (encode (clockFields c)) (tableBytes t) ≡ tableBytes (withClock t c)
+unfolding tableBytes
+with-clock t c = over-clock (t .clock) c (rosterBytes (t .roster) ++ flat slotBytes (t .slots))

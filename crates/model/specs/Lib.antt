@@ -1,0 +1,12 @@
+pub mod Lists
+pub mod Numbers
+pub mod Clock
+pub mod Names
+pub mod Query
+pub mod Table
+pub mod Rules
+pub mod Sound
+pub mod Serve
+pub mod Reply
+pub mod Calls
+pub mod Meets
