@@ -26,13 +26,13 @@ use Rattle.claims.proofs.OutcomeLaws.{Told, option-told, sent-number, s
 
 -- AN ANSWERED CALL
 
-number-is : (k : ℕ) (c : ServeCall) (b lent : List ℕ) → servedBy k c b lent .number ≡ k
-number-is zero c b lent = refl
-number-is (suc k) c b lent = refl
+pub served-number : (k : ℕ) (c : ServeCall) (b lent : List ℕ) → servedBy k c b lent .number ≡ k
+served-number zero c b lent = refl
+served-number (suc k) c b lent = refl
 
 pub serve-number : (c : ServeCall) (b lent : List ℕ) → serve c b lent .number ≡ serveRefusal c b
 unfolding serve
-serve-number c b lent = number-is (serveRefusal c b) c b lent
+serve-number c b lent = served-number (serveRefusal c b) c b lent
 
 pub serve-answered : (c : ServeCall) (b lent : List ℕ) → serveRefusal c b ≡ 0 → serve c b lent ≡ servedBy 0 c b lent
 unfolding serve

@@ -11,7 +11,8 @@ use Rattle.claims.specs.Events.{Event, made, ticked, served, callOf, tab
 use Rattle.claims.specs.Demand3.{ReplyTold, Replied, Holds, Along, Demand3}
 use Rattle.claims.proofs.Passed.{make-passed}
 use Rattle.claims.proofs.Limits.{within-limits}
-use Rattle.claims.proofs.Kept.{Kept, kept-agrees, make-kept, made-number, served-number, kept-step, number-step}
+use Rattle.claims.proofs.AnsweredReply.{served-number}
+use Rattle.claims.proofs.Kept.{Kept, kept-agrees, make-kept, made-number, kept-step, number-step}
 use Rattle.claims.proofs.OtherNumbers.{other-than-one}
 use Rattle.claims.proofs.ReplyTold.{replied}
 

@@ -27,6 +27,7 @@ use Rattle.claims.proofs.Passed.{make-passed, make-judged, tick-passed,
 use Rattle.claims.proofs.FreshTable.{fresh-related, size-is}
 use Rattle.claims.proofs.TallyLaws.{before-n}
 use Rattle.claims.proofs.DatagramKeeps.{datagram-keeps}
+use Rattle.claims.proofs.AnsweredReply.{served-number}
 
 -- THE INVARIANT: bytes of a table that is related to the tally, and of the buffer's length
 pub record Kept (size : ℕ) (b : List ℕ) (y : Tally) : Type 0 where
@@ -72,10 +73,10 @@ make-kept c b range e =
     }
 
 -- the tally after a call of number k
-abbrev next : ℕ → ℕ → Tally → Call → Tally
+abbrev pub next : ℕ → ℕ → Tally → Call → Tally
 next k size y c = cond (eqb k 0) (doneTally size y c) y
 
-after-is : (size : ℕ) (y : Tally) (c : Call) (k : ℕ) → judged size c ≡ k → tallyAfter size y c ≡ next k size y c
+pub after-is : (size : ℕ) (y : Tally) (c : Call) (k : ℕ) → judged size c ≡ k → tallyAfter size y c ≡ next k size y c
 unfolding tallyAfter
 after-is size y c k e = ap (λ (k : ℕ). next k size y c) e
 
@@ -135,10 +136,6 @@ served-next size b lent y c range x zero e =
 served-next size b lent y c range x (suc k) e = refused k (serving c) x
 
 -- ONE CALL
-
-pub served-number : (k : ℕ) (c : ServeCall) (b lent : List ℕ) → servedBy k c b lent .number ≡ k
-served-number zero c b lent = refl
-served-number (suc k) c b lent = refl
 
 pub kept-step : (size : ℕ) (b : List ℕ) (y : Tally) (e : Event) → InRange (callOf e) → Kept size b y → Happens model b e
     → Kept size (tableOf e) (tallyAfter size y (callOf e))

@@ -35,3 +35,12 @@ pub mod ReplyClaim
 pub mod ChangesClaim
 pub mod EstablishedClaim
 pub mod RepeatsClaim
+pub mod OthersClaim
+pub mod LiveAge
+pub mod Ladders
+pub mod NameReading
+pub mod QuestionReading
+pub mod HeaderReading
+pub mod OptReading
+pub mod RosterReading
+pub mod RefusalClaim

@@ -27,7 +27,8 @@ pub record Told (o : LlqOption) (x : Outcome) : Type 0 where
   pub number : x .number < 256 ^ 8
   pub lease : x .lease < 256 ^ 4
 
-either : {A : Type 0} (P : A → Type 0) (v : Bool) {a b : A} → P a → P b → P (cond v a b)
+-- what holds of both branches holds of the choice
+pub either : {A : Type 0} (P : A → Type 0) (v : Bool) {a b : A} → P a → P b → P (cond v a b)
 either P true p q = p
 either P false p q = q
 

@@ -25,7 +25,9 @@ use Rattle.claims.proofs.DatagramKeeps.{datagram-keeps, outcome-keeps}
 use Rattle.claims.proofs.Kept.{Kept, kept-back}
 
 -- OPTION i
-module _ (c : ServeCall) (left : List ℕ) (before : Tally) (t : Table) (i : ℕ) (says : OptionSays left (optionPlace (c .datagram) i) (llqOption (c .datagram) i .opcode) (tallyOutcome c before i .error) (tallyOutcome c before i .number) (tallyOutcome c before i .lease))
+module _ (c : ServeCall) (left : List ℕ) (before : Tally) (t : Table) (i : ℕ)
+    (says : OptionSays left (optionPlace (c .datagram) i) (llqOption (c .datagram) i .opcode) (tallyOutcome c before i .error)
+    (tallyOutcome c before i .number) (tallyOutcome c before i .lease))
     (r : Related t (tallyBefore c before i)) where
   abbrev now : Tally
   now = tallyBefore c before i

@@ -1,9 +1,9 @@
--- The tally alone: n stays, and when an option is told "full". Assumes nothing.
-use Prim.Native.Nat.{ℕ, zero, suc, _≤_}
+-- The tally alone: what no option changes, and when one is told "full". Assumes nothing.
+use Prim.Native.Nat.{ℕ, zero, suc, _+_, _*_, _%_, _≤_}
 use native.Mathlib.Omega.{arith}
 use mathlib.Core.Path.{_≡_, refl, _∙_}
 use mathlib.Core.Bool.{Bool, true, false, not, cond, _&&_}
-use mathlib.Core.List.{List, [], _∷_}
+use mathlib.Core.List.{List, [], _∷_, _++_, map}
 use mathlib.Core.Logic.{_≢_, inl, inr}
 use lib.Dec.{eqb, leb}
 use borrow.Author.Tests.{leb-true}
@@ -15,33 +15,43 @@ use Rattle.model.specs.Sound.{validLine}
 use Rattle.model.specs.Serve.{Sender, Outcome}
 use Rattle.model.specs.Calls.{ServeCall}
 use Rattle.model.proofs.ListLaws.{and-left}
-use Rattle.claims.specs.Tally.{Tally, lineOf, isFull, AtShare, Full, isSetup, isResponse, isRefresh, isOf, isAnswered, isRefreshed, setupTally, setupOutcome, responseOutcome, refreshOutcome, malformedOutcome, outcome, numberFor, leaseFor, moveTally, optionTally, optionOutcome, tallyBefore}
+use Rattle.claims.specs.Tally.{withHoldings, newHolding, established, renewed, passed, Tally, lineOf, isFull, AtShare, Full, isSetup, isResponse, isRefresh, isOf, isAnswered, isRefreshed, setupTally, setupOutcome, responseOutcome, refreshOutcome, malformedOutcome, outcome, numberFor, leaseFor, moveTally, optionTally, optionOutcome, tallyBefore}
+use Rattle.claims.proofs.OutcomeLaws.{either}
 
-either : {A : Type 0} (P : A → Type 0) (v : Bool) {a b : A} → P a → P b → P (cond v a b)
-either P true p q = p
-either P false p q = q
-
--- n STAYS
-module _ (s : Sender) (r : ℕ) (q : Question) (o : LlqOption) (y : Tally) where
+-- WHAT NO OPTION CHANGES: a number that does not depend on the holdings
+module _ (f : Tally → ℕ) (same : (y : Tally) (hs : List Holding) → f (withHoldings y hs) ≡ f y) (s : Sender) (r : ℕ) (q : Question) (o : LlqOption) (y : Tally) where
   abbrev Stays : Tally → Type 0
-  Stays z = z .n ≡ y .n
+  Stays z = f z ≡ f y
 
-  setup-n : (hs : List Holding) → setupTally s r q o y hs .n ≡ y .n
-  setup-n [] = either Stays (isFull y (s .address)) refl refl
-  setup-n (h ∷ hs) = refl
+  setup-stays : (hs : List Holding) → Stays (setupTally s r q o y hs)
+  setup-stays [] = either Stays (isFull y (s .address)) refl (same y (y .holdings ++ (newHolding s r q o y ∷ [])))
+  setup-stays (h ∷ hs) = refl
 
-  option-n : optionTally s r q o y .n ≡ y .n
+  option-stays : f (optionTally s r q o y) ≡ f y
   unfolding optionTally
-  option-n =
-      either Stays (isSetup o) (setup-n (keep (isOf s q) (y .holdings)))
-      (either Stays (isResponse o) refl
-      (either Stays (isRefresh o) (either Stays (eqb (o .lease) 0) refl refl) refl))
+  option-stays =
+      either Stays (isSetup o) (setup-stays (keep (isOf s q) (y .holdings)))
+      (either Stays (isResponse o) (same y (map (λ h. cond (isAnswered s q o h) (established h) h) (y .holdings)))
+      (either Stays (isRefresh o)
+      (either Stays (eqb (o .lease) 0) (same y (keep (λ h. not (isRefreshed s q o h)) (y .holdings)))
+      (same y (map (λ h. cond (isRefreshed s q o h) (renewed (leaseFor (o .lease)) h) h) (y .holdings))))
+      refl))
+
+before-stays : (f : Tally → ℕ) → ((y : Tally) (hs : List Holding) → f (withHoldings y hs) ≡ f y) → (c : ServeCall) (y : Tally) (i : ℕ)
+    → f (tallyBefore c y i) ≡ f (moveTally y (c .week * 604800 + c .second))
+unfolding tallyBefore
+before-stays f same c y zero = refl
+before-stays f same c y (suc i) =
+    option-stays f same (c .sender) (c .random) (question (c .datagram) i) (llqOption (c .datagram) i) (tallyBefore c y i) ∙ before-stays f same c y i
 
 pub before-n : (c : ServeCall) (y : Tally) (i : ℕ) → tallyBefore c y i .n ≡ y .n
-unfolding tallyBefore moveTally
-before-n c y zero = refl
-before-n c y (suc i) =
-    option-n (c .sender) (c .random) (question (c .datagram) i) (llqOption (c .datagram) i) (tallyBefore c y i) ∙ before-n c y i
+unfolding moveTally
+before-n c y i = before-stays (λ z. z .n) (λ z hs. refl) c y i
+
+pub before-running : (c : ServeCall) (y : Tally) (i : ℕ)
+    → tallyBefore c y i .running ≡ (y .running + passed (y .place) (c .week * 604800 + c .second)) % 4294967296
+unfolding moveTally
+before-running c y i = before-stays (λ z. z .running) (λ z hs. refl) c y i
 
 -- "FULL" IS TOLD to a setup that finds no holding of an address that is full, and to nothing else
 pub record FullSetup (s : Sender) (q : Question) (o : LlqOption) (y : Tally) : Type 0 where

@@ -10,3 +10,5 @@ pub mod Pins
 pub mod Reply
 pub mod Impostors
 pub mod Repeats
+pub mod Others
+pub mod LiveAge

@@ -1,7 +1,7 @@
 -- Claim 7: an answered datagram's reply, place by place. Assumes nothing.
 use Prim.Native.Nat.{ℕ, _+_, _-_, _*_, _<_, _≤_}
 use mathlib.Core.Path.{_≡_}
-use mathlib.Core.Bool.{Bool, true, false, cond}
+use mathlib.Core.Bool.{true, false, cond}
 use mathlib.Core.List.{List}
 use lib.ListN.{length, getD, drop}
 use Rattle.model.specs.Numbers.{bigEndian}
@@ -63,7 +63,8 @@ pub record Reply (c : ServeCall) (b lent reply : List ℕ) (k : ℕ) : Type 0 wh
   pub optData : bigEndian reply (questionsEnd (c .datagram) + 9) 2 ≡ 22 * optionCount (c .datagram)
   -- option i: the opcode sent, and what option i on question i gives in the table that the options before it left
   pub options : matched (c .datagram) ≡ true → (i : ℕ) → i < qdcount (c .datagram)
-      → OptionSays reply (optionPlace (c .datagram) i) (llqOption (c .datagram) i .opcode) (outcomeOf c (readTable b) i .error) (outcomeOf c (readTable b) i .number) (outcomeOf c (readTable b) i .lease)
+      → OptionSays reply (optionPlace (c .datagram) i) (llqOption (c .datagram) i .opcode) (outcomeOf c (readTable b) i .error)
+      (outcomeOf c (readTable b) i .number) (outcomeOf c (readTable b) i .lease)
   -- where the count and length test fails, one option: opcode 1, error 3, number 0, lease 0
   pub mismatch : matched (c .datagram) ≡ false → OptionSays reply (optionPlace (c .datagram) 0) 1 3 0 0
   -- bytes past the reply are as they were, and the buffer keeps its length
