@@ -1,0 +1,66 @@
+-- `clock::stepped` meets its contract: the sign of the step picks the arm, and a step that is not negative is its natural number.
+-- Assumes nothing.
+use borrow.Author.Needs.{needs}
+use mathlib.Core.Path.{_≡_, refl, sym, _∙_, ap}
+use mathlib.Core.Bool.{Bool, true, false, true≢false}
+use Prim.Native.Nat.{ℕ, _+_, _%_, _^_, _<_}
+use native.Mathlib.Omega.{arith}
+use lib.IntN.{ℤ, pos, negsuc, natAbs}
+use lib.Signed.{ltZ, nonNeg}
+use lib.Dec.{T}
+use mir.Syntax.{w32}
+use mir.Val.{toZ, ofZ, SFits, Fits}
+use mir.ValLaws.{toZ-ofZ}
+use borrow.Author.Tests.{ltb-true}
+use Rattle.model.specs.Clock.{Clock, moved, advance}
+use Rattle.clock.proofs.stepped.Statement.{statement}
+use Rattle.clock.proofs.stepped.Tie as tie
+use Rattle.clock.proofs.stepped.Reads as reads
+use Rattle.clock.proofs.stepped.Lts as lts
+use Rattle.clock.proofs.step.Reads as step-reads
+use Rattle.std.proofs.num.wrapping_add_u32.Reads as wrapping-add-u32-reads
+
+-- a step back, as the machine's test tells it, leaves the clock
+kept : (z : ℤ) → ltZ z (pos 0) ≡ true → (k : Clock) (p : ℕ) → k ≡ moved k p z
+kept (pos n) e k p = absurd (omega (arith, ltb-true n 0 e))
+kept (negsuc n) e k p = refl
+
+-- and any other is a natural number
+ahead : (z : ℤ) → ltZ z (pos 0) ≡ false → SFits w32 z → T (nonNeg z) × Fits w32 (natAbs z)
+ahead (pos n) e f = (tt, omega arith)
+ahead (negsuc n) e f = absurd (true≢false e)
+
+added : (z : ℤ) → ltZ z (pos 0) ≡ false → (k : Clock) (p x : ℕ) → x ≡ (k .running + natAbs z) % 2 ^ 32 → record { place = p; running = x } ≡ moved k p z
+added (pos n) e k p x h = ap (λ (v : ℕ). record { place = p; running = v }) h
+added (negsuc n) e k p x h = absurd (true≢false e)
+
+step-requires : tie.Need-step-requires
+step-requires c κs = search needs
+
+cast-wrapping-add-u32 : tie.Need-cast-wrapping-add-u32
+cast-wrapping-add-u32 c =
+    let z = c .before .step .result in
+    let fit : SFits w32 z = record { sfits = c .before .step .ok } in
+    rw (toZ-ofZ w32 z fit) (ahead z (rw (toZ-ofZ w32 z fit) at (c .if1 .left)) fit)
+
+wrapping-add-u32-requires : tie.Need-wrapping-add-u32-requires
+wrapping-add-u32-requires c κs = search needs
+
+returns : tie.Need-returns
+unfolding advance
+returns c =
+    let z = c .before .step .result in
+    let fit : SFits w32 z = record { sfits = c .before .step .ok } in
+    rw (← c .before .step .ensures) (kept z (rw (toZ-ofZ w32 z fit) at (c .if1 .taken)) _ _)
+
+returns-2 : tie.Need-returns-2
+unfolding advance
+returns-2 c =
+    let at = c .before .before in
+    let z = at .step .result in
+    let fit : SFits w32 z = record { sfits = at .step .ok } in
+    rw (← at .step .ensures)
+    (added z (rw (toZ-ofZ w32 z fit) at (c .before .if1 .left)) _ _ _ (rw (toZ-ofZ w32 z fit) at (c .wrapping-add-u32 .ensures)))
+
+pub stepped-spec : {M : Type 1} → statement M
+stepped-spec = tie.close (tie.spec step-requires returns cast-wrapping-add-u32 wrapping-add-u32-requires returns-2)

@@ -1,0 +1,15 @@
+-- `clock::valid` meets its contract: one test after the other. Assumes nothing.
+use borrow.Author.Tests.{le-ltb, lt-ltb}
+use Rattle.clock.proofs.valid.Statement.{statement}
+use Rattle.clock.proofs.valid.Tie as tie
+use Rattle.clock.proofs.valid.Reads as reads
+use Rattle.clock.proofs.valid.Lts as lts
+
+returns : tie.Need-returns
+returns c = rw (le-ltb _ _ (c .if1 .taken))
+
+returns-2 : tie.Need-returns-2
+returns-2 c = rw (lt-ltb _ _ (c .if1 .left))
+
+pub valid-spec : {M : Type 1} → statement M
+valid-spec = tie.close (tie.spec returns returns-2)

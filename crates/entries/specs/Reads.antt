@@ -1,0 +1,68 @@
+-- The code's sender, question and entry as the model's, and what a loop over slots has passed. Assumes nothing.
+use Prim.Native.Nat.{ℕ, zero, suc, _+_, _-_, _*_, _^_}
+use mathlib.Core.Path.{_≡_}
+use mathlib.Core.Bool.{Bool, true, false, not, cond, _||_}
+use mathlib.Core.List.{List, [], _∷_}
+use lib.ListN.{length, getD}
+use lib.Dec.{eqb}
+use Rattle.model.specs.Lists.{count, every}
+use Rattle.model.specs.Numbers.{bigEndian}
+use Rattle.model.specs.Query as query
+use Rattle.model.specs.Table as table
+use Rattle.model.specs.Table.{lineAt, slotAt, readLine, readSlot, readTable}
+use Rattle.model.specs.Rules.{Holding, holdings, heldBy}
+use Rattle.model.specs.Serve as serve
+use Rattle.model.specs.Serve.{has}
+use Rattle.layout.specs.Shape.{slotsTo}
+use Rattle.wire.specs.declared.LlqNumber.{LlqNumber}
+use Rattle.entries.specs.declared.Sender.{Sender}
+use Rattle.entries.specs.declared.State.{State}
+use Rattle.entries.specs.declared.State.the-variants.{Free, Pending, Established}
+use Rattle.entries.specs.declared.Entry.{Entry}
+
+-- an address of two halves
+abbrev pub addressOf : ℕ → ℕ → ℕ
+addressOf high low = high * 2 ^ 64 + low
+
+abbrev pub senderOf : Sender → serve.Sender
+senderOf s = record { address = addressOf (s .high) (s .low); port = s .port }
+
+-- a question of a name, a type and a class
+abbrev pub asked : List ℕ → ℕ → ℕ → query.Question
+asked name qtype qclass = record { name = name; qtype = qtype; qclass = qclass }
+
+-- of an option, what a finder goes by: its number and its lease
+abbrev pub sent : ℕ → ℕ → query.LlqOption
+sent number lease = record { version = 1; opcode = 1; error = 0; number = number; lease = lease }
+
+-- 0x05 pending, 0x06 established
+abbrev pub stateOf : ℕ → State
+stateOf k = cond (eqb k 5) Pending (cond (eqb k 6) Established Free)
+
+-- the slot at a place as the code reads it
+unfoldable pub entryAt : List ℕ → ℕ → Entry
+entryAt b at =
+    record {
+      state = stateOf (getD b at 0);
+      high = bigEndian b (at + 1) 8;
+      low = bigEndian b (at + 9) 8;
+      port = bigEndian b (at + 17) 2;
+      number = record { 0 = bigEndian b (at + 19) 8 };
+      lease = bigEndian b (at + 27) 4;
+      stamp = bigEndian b (at + 31) 4;
+      qtype = bigEndian b (at + 35) 2;
+      qclass = bigEndian b (at + 37) 2;
+      len = getD b (at + 39) 0;
+    }
+
+-- slot i has an entry that passes the test
+abbrev pub wanted : List ℕ → (Holding → Bool) → ℕ → Bool
+wanted b p i = has (bigEndian b 5 4) p (readSlot b (slotAt i))
+
+-- none of the slots below i passes the test
+unfoldable pub noneTo : List ℕ → (table.Slot → Bool) → ℕ → Type 0
+noneTo b q i = every (λ s. not (q s)) (slotsTo b i) ≡ true
+
+-- a line's share less what its address holds
+unfoldable pub keptBack : List ℕ → ℕ → ℕ
+keptBack b i = readLine b (lineAt i) .share - count (holdings (readTable b)) (heldBy (readLine b (lineAt i) .address))

@@ -1,0 +1,128 @@
+-- Laws of the code of this crate: numbers as chains of bytes, zeros and equal bytes step by step. Assumes nothing.
+use Prim.Native.Nat.{ℕ, zero, suc, _+_, _-_, _*_, _/_, _%_, _≤_, _<_}
+use native.Mathlib.Nat.{add-zero, mul-suc}
+use native.Mathlib.Omega.{arith}
+use native.Mathlib.Numerals.{add-one}
+use mathlib.Core.Path.{_≡_, refl, sym, ap, _∙_}
+use mathlib.Core.Bool.{Bool, true, false, cond, _&&_}
+use mathlib.Core.Logic.{_⊎_, inl, inr, ⊎-elim}
+use lib.Dec.{lit<}
+use mathlib.Core.List.{List, [], _∷_, _++_}
+use lib.ListN.{length, getD, set, replicate, length-set, length-replicate, replicate-append-replicate}
+use Rattle.model.specs.Lists.{same}
+use Rattle.model.specs.Numbers.{bigEndian, bytesOf, Bytes, part, splice}
+use Rattle.model.proofs.NumberLaws.{put-step, splice-none, bytes-big, big-ext, getD-part, length-part, part-none, part-all, big-one, splice-next}
+use Rattle.model.proofs.ListLaws.{same-refl, same-true, same-append, part-add, never, test}
+
+-- a number of two, four or eight bytes as one chain
+pub chain2 : (s : List ℕ) (at : ℕ) → getD s at 0 * 256 + getD s (at + 1) 0 ≡ bigEndian s at 2
+unfolding bigEndian
+chain2 s at = rw (add-zero at) (omega arith)
+
+pub chain4 : (s : List ℕ) (at : ℕ) → ((getD s at 0 * 256 + getD s (at + 1) 0) * 256 + getD s (at + 2) 0) * 256 + getD s (at + 3) 0 ≡ bigEndian s at 4
+unfolding bigEndian
+chain4 s at = rw (add-zero at) (omega arith)
+
+pub chain8 : (s : List ℕ) (at : ℕ)
+    → ((((((getD s at 0 * 256 + getD s (at + 1) 0) * 256 + getD s (at + 2) 0) * 256 + getD s (at + 3) 0) * 256 + getD s (at + 4) 0) * 256
+    + getD s (at + 5) 0) * 256 + getD s (at + 6) 0) * 256 + getD s (at + 7) 0 ≡ bigEndian s at 8
+unfolding bigEndian
+chain8 s at = rw (add-zero at) (omega arith)
+
+-- the last k bytes of x stored one by one, the least significant first
+abbrev pub stores : ℕ → ℕ → List ℕ → ℕ → List ℕ
+stores zero at s x = s
+stores (suc k) at s x = stores k at (set s (at + k) (x % 256)) (x / 256)
+
+pub stores-is : (k at : ℕ) (s : List ℕ) (x : ℕ) → at + k ≤ length s → stores k at s x ≡ splice at k (bytesOf k x) s
+unfolding bytesOf
+stores-is zero at s x h = sym (splice-none at s)
+stores-is (suc k) at s x h =
+    stores-is k at (set s (at + k) (x % 256)) (x / 256) (simp length-set (omega arith)) ∙ put-step s at k x (omega arith)
+
+-- two lists that differ are told apart
+pub same-no : (x y : List ℕ) → (x ≡ y → ⊥) → same x y ≡ false
+same-no x y h = ⊎-elim (λ (e : same x y ≡ true). absurd (h (same-true x y e))) (λ (e : same x y ≡ false). e) (test (same x y))
+
+-- parts that are compared w bytes at a time: of s from a, and of t from b
+module _ (s t : List ℕ) (a b : ℕ) where
+  pub step : (i w : ℕ) → Bytes s → Bytes t → part a i s ≡ part b i t → a + i + w ≤ length s → b + i + w ≤ length t
+      → bigEndian s (a + i) w ≡ bigEndian t (b + i) w → part a (i + w) s ≡ part b (i + w) t
+  step i w p q e h l z =
+      part-add a i w s
+      ∙ ap (λ (x : List ℕ). x ++ part (a + i) w s) e
+      ∙ ap (λ (x : List ℕ). part b i t ++ x) (sym (bytes-big s (a + i) w p h) ∙ ap (bytesOf w) z ∙ bytes-big t (b + i) w q l)
+      ∙ sym (part-add b i w t)
+
+  at-part : (n i j : ℕ) → i + j < n → part a n s ≡ part b n t → getD s (a + i + j) 0 ≡ getD t (b + i + j) 0
+  at-part n i j h e =
+      let f : a + (i + j) ≡ a + i + j = omega arith in
+      let g : b + (i + j) ≡ b + i + j = omega arith in
+      rw (f, g) at (sym (getD-part a n s (i + j) h) ∙ ap (λ (x : List ℕ). getD x (i + j) 0) e ∙ getD-part b n t (i + j) h)
+
+  pub stop : (n i w : ℕ) → i + w ≤ n → (bigEndian s (a + i) w ≡ bigEndian t (b + i) w → ⊥) → same (part a n s) (part b n t) ≡ false
+  stop n i w h z =
+      same-no (part a n s) (part b n t) (λ e. z (big-ext s t (a + i) (b + i) w (λ j l. at-part n i j (omega arith) e)))
+
+  pub done : (n : ℕ) → part a n s ≡ part b n t → same (part a n s) (part b n t) ≡ true
+  done n e = rw e (same-refl (part b n t))
+
+  -- n bytes are j and then k
+  pub both : (j k : ℕ) → a + j ≤ length s → b + j ≤ length t
+      → same (part a (j + k) s) (part b (j + k) t) ≡ same (part a j s) (part b j t) && same (part (a + j) k s) (part (b + j) k t)
+  both j k h l =
+      rw (part-add a j k s, part-add b j k t)
+      (same-append (part a j s) (part (a + j) k s) (part b j t) (part (b + j) k t) (length-part a j s h ∙ sym (length-part b j t l)))
+
+-- zeros
+abbrev pub noughts : ℕ → List ℕ
+noughts n = replicate n 0
+
+pub getD-zeros : (n i : ℕ) → getD (noughts n) i 0 ≡ 0
+getD-zeros zero i = refl
+getD-zeros (suc n) zero = refl
+getD-zeros (suc n) (suc i) = getD-zeros n i
+
+pub zero-bytes : (n : ℕ) → Bytes (noughts n)
+zero-bytes n i = let e = getD-zeros n i in omega arith
+
+pub big-zeros : (n b k : ℕ) → bigEndian (noughts n) b k ≡ 0
+unfolding bigEndian
+big-zeros n b zero = refl
+big-zeros n b (suc k) = omega (arith, big-zeros n b k, getD-zeros n (b + k))
+
+pub part-zeros : (n : ℕ) → part 0 n (noughts n) ≡ noughts n
+part-zeros n = let e : length (noughts n) ≡ n = length-replicate n 0 in rw e at (part-all (noughts n))
+
+-- the zeros of the first i of n
+pub length-zeros : (n : ℕ) → length (noughts n) ≡ n
+length-zeros n = length-replicate n 0
+
+-- a turn of a clearing
+pub clear-step : (at i : ℕ) (s : List ℕ) → at + i < length s → set (splice at i (noughts i) s) (at + i) 0 ≡ splice at (i + 1) (noughts (i + 1)) s
+clear-step at i s h =
+    splice-next at i 0 (noughts i) s (length-zeros i) h
+    ∙ ap (λ (x : List ℕ). splice at (i + 1) x s) (replicate-append-replicate i 1 0)
+
+-- zeros that are looked for w bytes at a time, from index at
+module _ (s : List ℕ) (at n : ℕ) where
+  pub zero-step : (i w : ℕ) → Bytes s → part 0 i (noughts n) ≡ part at i s → i + w ≤ n → at + i + w ≤ length s → bigEndian s (at + i) w ≡ 0
+      → part 0 (i + w) (noughts n) ≡ part at (i + w) s
+  zero-step i w b e h l z =
+      let f = length-zeros n in
+      step (noughts n) s 0 at i w (zero-bytes n) b e (omega arith) l (big-zeros n (0 + i) w ∙ sym z)
+
+  pub zero-stop : (i w : ℕ) → i + w ≤ n → (bigEndian s (at + i) w ≡ 0 → ⊥) → same (noughts n) (part at n s) ≡ false
+  zero-stop i w h z =
+      rw (part-zeros n) at (stop (noughts n) s 0 at n i w h (λ e. z (sym e ∙ big-zeros n (0 + i) w)))
+
+  pub zero-done : part 0 n (noughts n) ≡ part at n s → same (noughts n) (part at n s) ≡ true
+  zero-done e = rw (part-zeros n) at (done (noughts n) s 0 at n e)
+
+  -- n zeros are j and then k
+  pub zero-both : (j k : ℕ) → j + k ≡ n → at + j ≤ length s
+      → same (noughts j) (part at j s) && same (noughts k) (part (at + j) k s) ≡ same (noughts n) (part at n s)
+  zero-both j k e h =
+      let f : length (noughts j) ≡ length (part at j s) = length-zeros j ∙ sym (length-part at j s h) in
+      sym (same-append (noughts j) (noughts k) (part at j s) (part (at + j) k s) f)
+      ∙ rw (replicate-append-replicate {A = ℕ} j k 0, ← part-add at j k s, e)

@@ -1,0 +1,4 @@
+pub mod Choice
+pub mod Pad
+pub mod Names
+pub mod Reading

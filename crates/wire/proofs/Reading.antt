@@ -1,0 +1,155 @@
+-- What holds of whatever the cursor reads as a name, a number, a question or an option. Assumes nothing.
+use Prim.Native.Nat.{ℕ, _+_, _-_, _≤_, _<_}
+use mathlib.Core.Path.{_≡_, refl, sym, ap, subst, _∙_}
+use mathlib.Core.List.{List}
+use mathlib.Core.Bool.{Bool, true, false, cond, _&&_}
+use native.Mathlib.Omega.{arith}
+use lib.ListN.{length, getD}
+use lib.Dec.{eqb, ltb, leb}
+use borrow.Author.Tests.{le-leb, lt-leb, leb-true, leb-false}
+use Rattle.model.specs.Numbers.{bigEndian}
+use Rattle.model.specs.Query.{nameAt, goodQuestion, questionEnd, goodOption, optionEnd}
+use Rattle.model.proofs.ListLaws.{and-left, and-right}
+use Rattle.wire.specs.Records.{questionRecord, recordAt}
+use Rattle.wire.specs.Read.{cursor, readNumber, named, readName, readQuestion, readOption}
+use Rattle.wire.specs.declared.Cursor.{Cursor}
+use Rattle.wire.specs.declared.NumberRead.{NumberRead}
+use Rattle.wire.specs.declared.NumberRead.the-variants as number
+use Rattle.wire.specs.declared.NameRead.{NameRead}
+use Rattle.wire.specs.declared.NameRead.the-variants as name
+use Rattle.wire.specs.declared.QuestionRead.{QuestionRead}
+use Rattle.wire.specs.declared.QuestionRead.the-variants as question
+use Rattle.wire.specs.declared.OptionRead.{OptionRead}
+use Rattle.wire.specs.declared.OptionRead.the-variants as option
+use Rattle.wire.proofs.Choice.{cond-when}
+use Rattle.wire.proofs.Names.{name-within}
+
+-- NUMBERS AND NAMES
+
+abbrev pub NumberIs : List ℕ → ℕ → NumberRead → Type 0
+NumberIs s at (number.Number k c) = (k ≡ bigEndian s at 2) × (c ≡ cursor (at + 2)) × (at + 2 ≤ length s)
+NumberIs s at number.Short = length s < at + 2
+
+pub number-is : (s : List ℕ) (at : ℕ) {r : NumberRead} → readNumber s at ≡ r → NumberIs s at r
+number-is s at e =
+    subst (NumberIs s at) e
+    (cond-when (NumberIs s at) (leb (at + 2) (length s)) _ _
+    (λ t. (refl, refl, leb-true (at + 2) (length s) t))
+    (λ t. leb-false (at + 2) (length s) t))
+
+-- a name is of 1 to 255 bytes
+abbrev pub fitting : ℕ → Bool
+fitting n = leb 1 n && leb n 255
+
+abbrev pub NameIs : List ℕ → ℕ → NameRead → Type 0
+NameIs s at (name.Name n c) = (nameAt s at ≡ n) × (fitting n ≡ true) × (c ≡ cursor (at + n))
+NameIs s at name.Bad = fitting (nameAt s at) ≡ false
+
+pub name-is : (s : List ℕ) (at : ℕ) {r : NameRead} → readName s at ≡ r → NameIs s at r
+name-is s at e =
+    subst (NameIs s at) e (cond-when (NameIs s at) (fitting (nameAt s at)) _ _ (λ t. (refl, t, refl)) (λ t. t))
+
+-- QUESTIONS
+
+module _ (s : List ℕ) (at : ℕ) where
+  good-is : fitting (nameAt s at) ≡ true → at + nameAt s at + 4 ≤ length s → goodQuestion s at ≡ true
+  unfolding goodQuestion
+  good-is f l =
+      let a = and-left (leb 1 (nameAt s at)) (leb (nameAt s at) 255) f in
+      let b = and-right (leb 1 (nameAt s at)) (leb (nameAt s at) 255) f in
+      rw (a, b, le-leb (at + nameAt s at + 4) (length s) l)
+
+  pub unnamed : fitting (nameAt s at) ≡ false → goodQuestion s at ≡ false
+  unfolding goodQuestion
+  unnamed f = go (leb 1 (nameAt s at)) (leb (nameAt s at) 255) (leb (at + nameAt s at + 4) (length s)) f
+    where
+      go : (a b c : Bool) → a && b ≡ false → a && b && c ≡ false
+      go true true c e = absurd (no e)
+        where
+          no : true ≡ false → ⊥
+          no z = let w : _≡_ {A = ℕ} 1 0 = ap (λ (t : Bool). cond t 1 0) z in absurd (omega arith)
+      go true false c e = refl
+      go false b c e = refl
+
+  pub cut : length s < at + nameAt s at + 4 → goodQuestion s at ≡ false
+  unfolding goodQuestion
+  cut l = rw (lt-leb (at + nameAt s at + 4) (length s) l) (go (leb 1 (nameAt s at)) (leb (nameAt s at) 255))
+    where
+      go : (a b : Bool) → a && b && false ≡ false
+      go true true = refl
+      go true false = refl
+      go false b = refl
+
+  pub question-found : {len qtype qclass : ℕ} {c1 c2 next : Cursor} → readName s at ≡ name.Name len c1 → readNumber s (c1 .at) ≡ number.Number qtype c2
+      → readNumber s (c2 .at) ≡ number.Number qclass next → readQuestion s at ≡ question.Found at len qtype qclass next
+  question-found {len} {qtype} {qclass} {c1} {c2} {next} n p q =
+      let n' = name-is s at n in
+      let p' = number-is s (c1 .at) p in
+      let q' = number-is s (c2 .at) q in
+      let e1 : c1 .at ≡ at + len = ap (λ (c : Cursor). c .at) (n' .2) in
+      let e2 : c2 .at ≡ c1 .at + 2 = ap (λ (c : Cursor). c .at) (p' .1) in
+      let l : at + nameAt s at + 4 ≤ length s = omega arith in
+      let g : goodQuestion s at ≡ true = good-is (rw (n' .0) (n' .1)) l in
+      let e3 : c2 .at ≡ at + len + 2 = omega arith in
+      let e4 : c2 .at + 2 ≡ at + len + 4 = omega arith in
+      rw (g, n' .0, p' .0, q' .0, q' .1, e4, e3, e1)
+
+  pub question-unnamed : readName s at ≡ name.Bad → readQuestion s at ≡ question.Bad
+  question-unnamed n = rw (unnamed (name-is s at n))
+
+  pub question-cut : {len : ℕ} {c1 : Cursor} → readName s at ≡ name.Name len c1 → readNumber s (c1 .at) ≡ number.Short → readQuestion s at ≡ question.Bad
+  question-cut {len} {c1} n p =
+      let n' = name-is s at n in
+      let p' = number-is s (c1 .at) p in
+      let e1 : c1 .at ≡ at + len = ap (λ (c : Cursor). c .at) (n' .2) in
+      rw (cut (omega arith))
+
+  pub question-cut-later : {len qtype : ℕ} {c1 c2 : Cursor} → readName s at ≡ name.Name len c1 → readNumber s (c1 .at) ≡ number.Number qtype c2
+      → readNumber s (c2 .at) ≡ number.Short → readQuestion s at ≡ question.Bad
+  question-cut-later {len} {qtype} {c1} {c2} n p q =
+      let n' = name-is s at n in
+      let p' = number-is s (c1 .at) p in
+      let q' = number-is s (c2 .at) q in
+      let e1 : c1 .at ≡ at + len = ap (λ (c : Cursor). c .at) (n' .2) in
+      let e2 : c2 .at ≡ c1 .at + 2 = ap (λ (c : Cursor). c .at) (p' .1) in
+      rw (cut (omega arith))
+
+  pub good-within : goodQuestion s at ≡ true → (1 ≤ nameAt s at) × (nameAt s at ≤ 255) × (at + nameAt s at + 4 ≤ length s)
+  unfolding goodQuestion
+  good-within e = go (leb 1 (nameAt s at)) (leb (nameAt s at) 255) (leb (at + nameAt s at + 4) (length s)) refl refl refl e
+    where
+      no : {X : Type 0} → false ≡ true → X
+      no z = let w : _≡_ {A = ℕ} 0 1 = ap (λ (t : Bool). cond t 1 0) z in absurd (omega arith)
+
+      go : (a b c : Bool) → leb 1 (nameAt s at) ≡ a → leb (nameAt s at) 255 ≡ b → leb (at + nameAt s at + 4) (length s) ≡ c → a && b && c ≡ true
+          → (1 ≤ nameAt s at) × (nameAt s at ≤ 255) × (at + nameAt s at + 4 ≤ length s)
+      go true true true p q r z = (leb-true 1 (nameAt s at) p, leb-true (nameAt s at) 255 q, leb-true (at + nameAt s at + 4) (length s) r)
+      go true true false p q r z = no z
+      go true false c p q r z = no z
+      go false b c p q r z = no z
+
+abbrev pub QuestionIs : List ℕ → ℕ → QuestionRead → Type 0
+QuestionIs s at (question.Found start len qtype qclass next) =
+    (goodQuestion s at ≡ true) × (questionRecord s start len qtype qclass ≡ recordAt s at) × (next .at ≡ questionEnd s at) × (len ≤ 255) × (start + len ≤ length s)
+QuestionIs s at question.Bad = goodQuestion s at ≡ false
+
+pub question-is : (s : List ℕ) (at : ℕ) {r : QuestionRead} → readQuestion s at ≡ r → QuestionIs s at r
+question-is s at e =
+    subst (QuestionIs s at) e
+    (cond-when (QuestionIs s at) (goodQuestion s at) _ _
+    (λ t. let g = good-within s at t in (t, refl, refl, g .1, omega arith))
+    (λ t. t))
+
+-- OPTIONS
+
+abbrev pub OptionIs : List ℕ → ℕ → OptionRead → Type 0
+OptionIs s at (option.Found code start size next) =
+    (goodOption s at ≡ true) × (code ≡ bigEndian s at 2) × (start ≡ at + 4) × (size ≡ bigEndian s (at + 2) 2) × (next .at ≡ optionEnd s at)
+    × (next .at ≤ length s)
+OptionIs s at option.Bad = goodOption s at ≡ false
+
+pub option-is : (s : List ℕ) (at : ℕ) {r : OptionRead} → readOption s at ≡ r → OptionIs s at r
+unfolding goodOption
+option-is s at e =
+    subst (OptionIs s at) e
+    (cond-when (OptionIs s at) (goodOption s at) _ _ (λ t. (t, refl, refl, refl, refl, leb-true (optionEnd s at) (length s) t)) (λ t. t))

@@ -1,0 +1,253 @@
+// The records of a message, and a cursor that reads them: RFC 1035, RFC 6891 and RFC 8764.
+ghost use mathlib.Core.Path.{_≡_};
+ghost use Prim.Native.Nat.{_+_, _≤_};
+ghost use lib.ListN.{length};
+ghost use Rattle.model.specs.Names.{fold};
+ghost use Rattle.wire.specs.Records.{foldedName, questionRecord, optionRecord};
+ghost use Rattle.wire.specs.Read.{readByte, readNumber, readLabel, readName, readQuestion, readOption};
+
+pub mod write;
+
+// A message number and an LLQ number are different kinds: neither can stand for the other.
+pub struct MessageNumber(pub u16);
+pub struct LlqNumber(pub u64);
+
+// A question: its name's wire bytes, folded and padded with zeros, how many bytes the name takes, its type and class.
+pub struct Question {
+    pub name: [u8; 255],
+    pub len: usize,
+    pub qtype: u16,
+    pub qclass: u16,
+}
+
+// An LLQ option's 18 bytes.
+pub struct LlqOption {
+    pub version: u16,
+    pub opcode: u16,
+    pub error: u16,
+    pub number: LlqNumber,
+    pub lease: u32,
+}
+
+// A place in a message. Each reader takes it and hands it back moved on.
+pub struct Cursor {
+    pub at: usize,
+}
+
+pub enum ByteRead {
+    Byte(u8, Cursor),
+    Short,
+}
+
+pub enum NumberRead {
+    Number(u16, Cursor),
+    Short,
+}
+
+// A label that is passed, or the zero byte that ends a name.
+pub enum LabelRead {
+    Label(Cursor),
+    Last(Cursor),
+    Bad,
+}
+
+// How many bytes a name takes.
+pub enum NameRead {
+    Name(usize, Cursor),
+    Bad,
+}
+
+// Where a question's name starts and how many bytes it takes, and its numbers.
+pub enum QuestionRead {
+    Found {
+        start: usize,
+        len: usize,
+        qtype: u16,
+        qclass: u16,
+        next: Cursor,
+    },
+    Bad,
+}
+
+// An option's code, where its bytes start and how many there are.
+pub enum OptionRead {
+    Found {
+        code: u16,
+        start: usize,
+        size: usize,
+        next: Cursor,
+    },
+    Bad,
+}
+
+impl Cursor {
+    pub fn byte(self, s: &[u8]) -> ByteRead
+        ensures { λ r. ⌜ r ≡ readByte (now (s .entry)) (self .at) ⌝ }
+    {
+        let at = self.at;
+        if at < s.len() {
+            ByteRead::Byte(s[at], Cursor { at: at + 1 })
+        } else {
+            ByteRead::Short
+        }
+    }
+
+    // A number of 16 bits.
+    pub fn number(self, s: &[u8]) -> NumberRead
+        ensures { λ r. ⌜ r ≡ readNumber (now (s .entry)) (self .at) ⌝ }
+    {
+        let at = self.at;
+        if s.len() < 2 {
+            return NumberRead::Short;
+        }
+        if s.len() - 2 < at {
+            return NumberRead::Short;
+        }
+        NumberRead::Number(octets::get16(s, at), Cursor { at: at + 2 })
+    }
+
+    // A length byte of 1 to 63 and the label's bytes, or the zero byte.
+    pub fn label(self, s: &[u8]) -> LabelRead
+        ensures { λ r. ⌜ r ≡ readLabel (now (s .entry)) (self .at) ⌝ }
+    {
+        match self.byte(s) {
+            ByteRead::Byte(b, next) => {
+                if b == 0 {
+                    return LabelRead::Last(next);
+                }
+                if b >= 64 {
+                    return LabelRead::Bad;
+                }
+                LabelRead::Label(Cursor {
+                    at: next.at + b as usize,
+                })
+            }
+            ByteRead::Short => LabelRead::Bad,
+        }
+    }
+
+    // Labels up to the zero byte, at most 255 bytes.
+    pub fn name(self, s: &[u8]) -> NameRead
+        ensures { λ r. ⌜ r ≡ readName (now (s .entry)) (self .at) ⌝ }
+    {
+        let start = self.at;
+        let mut c = self;
+        while c.at - start < 255 {
+            match c.label(s) {
+                LabelRead::Label(next) => {
+                    c = next;
+                }
+                LabelRead::Last(next) => {
+                    return NameRead::Name(next.at - start, next);
+                }
+                LabelRead::Bad => {
+                    return NameRead::Bad;
+                }
+            }
+        }
+        NameRead::Bad
+    }
+
+    // A name, a type and a class.
+    pub fn question(self, s: &[u8]) -> QuestionRead
+        ensures { λ r. ⌜ r ≡ readQuestion (now (s .entry)) (self .at) ⌝ }
+    {
+        let start = self.at;
+        match self.name(s) {
+            NameRead::Name(len, c1) => match c1.number(s) {
+                NumberRead::Number(qtype, c2) => match c2.number(s) {
+                    NumberRead::Number(qclass, next) => QuestionRead::Found {
+                        start,
+                        len,
+                        qtype,
+                        qclass,
+                        next,
+                    },
+                    NumberRead::Short => QuestionRead::Bad,
+                },
+                NumberRead::Short => QuestionRead::Bad,
+            },
+            NameRead::Bad => QuestionRead::Bad,
+        }
+    }
+
+    // A code, a length, and as many bytes.
+    pub fn option(self, s: &[u8]) -> OptionRead
+        ensures { λ r. ⌜ r ≡ readOption (now (s .entry)) (self .at) ⌝ }
+    {
+        let at = self.at;
+        if s.len() < 4 {
+            return OptionRead::Bad;
+        }
+        if s.len() - 4 < at {
+            return OptionRead::Bad;
+        }
+        let code = octets::get16(s, at);
+        let start = at + 4;
+        let size = octets::get16(s, at + 2) as usize;
+        if s.len() - start < size {
+            return OptionRead::Bad;
+        }
+        OptionRead::Found {
+            code,
+            start,
+            size,
+            next: Cursor { at: start + size },
+        }
+    }
+}
+
+// Names compare and are stored with A to Z folded to a to z, other bytes as they are.
+pub fn fold(b: u8) -> u8
+    ensures { λ r. ⌜ r ≡ fold b ⌝ }
+{
+    if b < 65 {
+        return b;
+    }
+    if b > 90 {
+        return b;
+    }
+    b + 32
+}
+
+// The len bytes from index at, folded, and zeros after them.
+pub fn folded(s: &[u8], at: usize, len: usize) -> [u8; 255]
+    requires { ⌜ (len ≤ 255) × (at + len ≤ length (now s)) ⌝ }
+    ensures { λ r. ⌜ r ≡ foldedName (now (s .entry)) at len ⌝ }
+{
+    let mut name = [0u8; 255];
+    let mut i: usize = 0;
+    while i < len {
+        name[i] = fold(s[at + i]);
+        i = i + 1;
+    }
+    name
+}
+
+// A question by value, from what the cursor found.
+pub fn question_of(s: &[u8], at: usize, len: usize, qtype: u16, qclass: u16) -> Question
+    requires { ⌜ (len ≤ 255) × (at + len ≤ length (now s)) ⌝ }
+    ensures { λ r. ⌜ r ≡ questionRecord (now (s .entry)) at len qtype qclass ⌝ }
+{
+    let name = folded(s, at, len);
+    Question {
+        name,
+        len,
+        qtype,
+        qclass,
+    }
+}
+
+// An LLQ option by value, from where its 18 bytes start.
+pub fn option_of(s: &[u8], at: usize) -> LlqOption
+    requires { ⌜ at + 18 ≤ length (now s) ⌝ }
+    ensures { λ r. ⌜ r ≡ optionRecord (now (s .entry)) at ⌝ }
+{
+    LlqOption {
+        version: octets::get16(s, at),
+        opcode: octets::get16(s, at + 2),
+        error: octets::get16(s, at + 4),
+        number: LlqNumber(octets::get64(s, at + 6)),
+        lease: octets::get32(s, at + 14),
+    }
+}
