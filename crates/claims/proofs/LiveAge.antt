@@ -3,63 +3,44 @@ use Prim.Native.Nat.{ℕ, zero, suc, _+_, _*_, _%_, _^_, _≤_, _<_}
 use native.Mathlib.Nat.{add-assoc}
 use native.Mathlib.Omega.{arith}
 use mathlib.Core.Path.{_≡_, refl, sym, ap, _∙_, subst}
-use mathlib.Core.Bool.{Bool, true, false, not, cond}
+use mathlib.Core.Bool.{cond}
 use mathlib.Core.List.{List, [], _∷_}
 use lib.ListN.{length}
-use lib.Dec.{eqb, leb, eqb·suc-zero}
-use borrow.Author.Tests.{ltb-true, leb-true}
+use lib.Dec.{eqb, ltb, eqb·suc-zero}
+use borrow.Author.Tests.{ltb-true}
 use Rattle.model.specs.Lists.{count, any}
 use Rattle.model.specs.Clock.{ageAt}
 use Rattle.model.specs.Query.{qdcount, matched}
 use Rattle.model.specs.Table.{Entry, held, Table, tableBytes, readTable, sizeOf}
-use Rattle.model.specs.Rules.{Holding, holding, holdings}
-use Rattle.model.specs.Sound.{validLease, live, Sound, FitsEntry, FitsSlot, SoundBytes}
+use Rattle.model.specs.Rules.{holdings}
+use Rattle.model.specs.Sound.{Sound, FitsEntry, FitsSlot, SoundBytes}
 use Rattle.model.specs.Serve.{slotOf}
 use Rattle.model.specs.Calls.{MakeCall, TickCall, ServeCall}
 use Rattle.model.specs.Meets.{model}
-use Rattle.model.proofs.ListLaws.{and-right}
-use Rattle.model.proofs.HoldingLaws.{count-held}
+use Rattle.model.proofs.ListLaws.{either, every-none}
+use Rattle.model.proofs.ClockLaws.{fresh-age, ages}
+use Rattle.model.proofs.StepLaws.{fits-slot-of, young}
+use Rattle.model.proofs.Meaning.{read-stored}
+use Rattle.model.proofs.HoldingLaws.{count-held, held-obeys}
 use Rattle.claims.specs.Tally.{Tally, making, ticking, serving, passed, judged, moveTally, tallyAfter}
 use Rattle.claims.specs.Events.{Event, made, ticked, served, callOf, numberOf, tableOf, Happens, Trace, InRange, AllInRange}
 use Rattle.claims.specs.LiveAge.{stepIn, stepsAlong, leftBy, Stamped, StampedAlong, ageIn, LiveAge}
-use Rattle.claims.proofs.MoveKeeps.{passed-less}
-use Rattle.claims.proofs.OutcomeLaws.{either, slot-fits}
-use Rattle.claims.proofs.TallyLaws.{before-running}
-use Rattle.claims.proofs.TableTally.{tallyOf, read-stored, related-read}
-use Rattle.claims.proofs.Kept.{Kept, kept-back, next, after-is, kept-step, number-step}
+use Rattle.claims.proofs.Relation.MoveKeeps.{passed-less}
+use Rattle.claims.proofs.Demand3.TallyLaws.{before-running}
+use Rattle.claims.proofs.Relation.TableTally.{tallyOf, related-read}
+use Rattle.claims.proofs.Demand3.CallSteps.{Invariant, kept-back, next, after-is, kept-step, number-step}
 
--- ONE ENTRY OF A SOUND TABLE
-
--- a test that no holding fails is passed by the entry of a slot
-passes : (t : Table) (j : ℕ) (e : Entry) (p : Holding → Bool) → slotOf t j ≡ held e → count (holdings t) (λ h. not (p h)) ≡ 0
-    → p (holding (t .clock .running) e) ≡ true
-passes t j e p s z = go (p (holding (t .clock .running) e)) refl
-  where
-    go : (v : Bool) → p (holding (t .clock .running) e) ≡ v → v ≡ true
-    go true f = refl
-    go false f = absurd (omega (arith, count-held (t .clock .running) (t .slots) j e (λ h. not (p h)) s (ap not f)))
-
--- its age is under 7,200
-young : (t : Table) → Sound t → (j : ℕ) (e : Entry) → slotOf t j ≡ held e → ageAt (t .clock .running) (e .stamp) < 7200
-young t s j e h =
-    let a = ltb-true (ageAt (t .clock .running) (e .stamp)) (e .lease) (passes t j e live h (s .ages)) in
-    let l = passes t j e validLease h (s .leases) in
-    let b = leb-true (e .lease) 7200 (and-right (leb 60 (e .lease)) (leb (e .lease) 7200) l) in
-    omega arith
-
-wraps : (r s d : ℕ) → r < 2 ^ 32 → s < 2 ^ 32 → ageAt r s + d < 2 ^ 32 → ageAt ((r + d) % 4294967296) s ≡ ageAt r s + d
-wraps r s d hr hs h = omega arith
-
--- a step under 309,657,600 is added as a whole number
-age-grows : (r s d : ℕ) → r < 2 ^ 32 → s < 2 ^ 32 → ageAt r s < 7200 → d < 309657600 → ageAt ((r + d) % 4294967296) s ≡ ageAt r s + d
-age-grows r s d hr hs y hd = wraps r s d hr hs (omega arith)
-
-age-start : (r : ℕ) → r < 2 ^ 32 → ageAt r r ≡ 0
-age-start r h = omega arith
+-- an entry of a sound table may grow older by a step in one sum
+not-wrapping : (t : Table) → Sound t → (j : ℕ) (e : Entry) → slotOf t j ≡ held e → (d : ℕ) → d < 309657600
+    → ageAt (t .clock .running) (e .stamp) + d < 2 ^ 32
+not-wrapping t s j e h d l =
+    ltb-true (ageAt (t .clock .running) (e .stamp) + d) (2 ^ 32)
+    (held-obeys (t .clock .running) (t .slots) j e (λ h. ltb (h .age + d) (2 ^ 32)) h
+    (every-none (λ h. ltb (h .age + d) (2 ^ 32)) (holdings t) (young t d l s)))
 
 -- THE BYTES AND THE TALLY
 
-module _ {size : ℕ} {b : List ℕ} {y : Tally} (x : Kept size b y) where
+module _ {size : ℕ} {b : List ℕ} {y : Tally} (x : Invariant size b y) where
   read-place : readTable b .clock .place ≡ y .place
   read-place = ap (λ (t : Table). t .clock .place) (kept-back x) ∙ x .related .place
 
@@ -75,13 +56,14 @@ module _ {size : ℕ} {b : List ℕ} {y : Tally} (x : Kept size b y) where
 
     stamp-less : stamp < 2 ^ 32
     stamp-less =
-        let f : FitsEntry (h .entry) = subst FitsSlot held-here (slot-fits (x .table) (x .related .fits) j) in
+        let f : FitsEntry (h .entry) = subst FitsSlot held-here (fits-slot-of (x .table) j (x .related .fits)) in
         omega (arith, f .stamp, h .stamped)
 
-    stamp-young : ageAt (y .running) stamp < 7200
-    stamp-young =
-        subst (λ (r : ℕ). ageAt r stamp < 7200) (x .related .running)
-        (subst (λ (z : ℕ). ageAt (x .table .clock .running) z < 7200) (h .stamped) (young (x .table) (x .related .sound) j (h .entry) held-here))
+    stamp-grows : (d : ℕ) → d < 309657600 → ageAt (y .running) stamp + d < 2 ^ 32
+    stamp-grows d l =
+        subst (λ (r : ℕ). ageAt r stamp + d < 2 ^ 32) (x .related .running)
+        (subst (λ (z : ℕ). ageAt (x .table .clock .running) z + d < 2 ^ 32) (h .stamped)
+        (not-wrapping (x .table) (x .related .sound) j (h .entry) held-here d l))
 
     some-held : 1 ≤ count (y .holdings) any
     some-held =
@@ -126,13 +108,14 @@ stepIn-less place (made c k after) = omega arith
 stepIn-less place (ticked c k freed after) = step-less k place (c .week * 604800 + c .second)
 stepIn-less place (served c lent k m after left) = step-less k place (c .week * 604800 + c .second)
 
-age-step : (size : ℕ) (b : List ℕ) (y : Tally) (e : Event) (j stamp : ℕ) → InRange (callOf e) → Kept size b y → Happens model b e
+age-step : (size : ℕ) (b : List ℕ) (y : Tally) (e : Event) (j stamp : ℕ) → InRange (callOf e) → Invariant size b y → Happens model b e
     → Stamped j stamp b → Stamped j stamp (tableOf e)
     → ageIn (tableOf e) stamp ≡ ageIn b stamp + stepIn (readTable b .clock .place) e
 age-step size b y e j stamp range x h here there =
     let w = kept-step size b y e range x h in
     let r = running-step size y e (running-less x) (number-step size b y e x h) (some-held w j stamp there) in
-    let grown = age-grows (y .running) stamp (stepIn (y .place) e) (running-less x) (stamp-less x j stamp here) (stamp-young x j stamp here) (stepIn-less (y .place) e) in
+    let d = stepIn (y .place) e in
+    let grown = ages (y .running) stamp d (running-less x) (stamp-less x j stamp here) (stamp-grows x j stamp here d (stepIn-less (y .place) e)) in
     ap (λ (z : ℕ). ageAt z stamp) (read-running w ∙ r)
     ∙ grown
     ∙ ap (λ (z : ℕ). ageAt z stamp + stepIn (y .place) e) (sym (read-running x))
@@ -140,7 +123,7 @@ age-step size b y e j stamp range x h here there =
 
 -- ALONG THE LIST
 
-ages-along : (size : ℕ) (b : List ℕ) (y : Tally) (es : List Event) (j stamp : ℕ) → AllInRange es → Kept size b y → Trace model b es
+ages-along : (size : ℕ) (b : List ℕ) (y : Tally) (es : List Event) (j stamp : ℕ) → AllInRange es → Invariant size b y → Trace model b es
     → Stamped j stamp b → StampedAlong j stamp es
     → ageIn (leftBy b es) stamp ≡ ageIn b stamp + stepsAlong b es
 ages-along size b y [] j stamp ranges x h here all = omega arith
@@ -150,7 +133,7 @@ ages-along size b y (e ∷ es) j stamp ranges x h here all =
     more ∙ ap (λ (a : ℕ). a + stepsAlong (tableOf e) es) one ∙ add-assoc (ageIn b stamp) (stepIn (readTable b .clock .place) e) (stepsAlong (tableOf e) es)
 
 -- a sound table is kept with itself as the tally
-pub kept-self : (b : List ℕ) → SoundBytes b → Kept (sizeOf (length (readTable b .slots))) b (tallyOf (readTable b))
+pub kept-self : (b : List ℕ) → SoundBytes b → Invariant (sizeOf (length (readTable b .slots))) b (tallyOf (readTable b))
 kept-self b s =
     record {
       table = readTable b;
@@ -170,6 +153,6 @@ live-age =
       grows = grows;
       sinceStamp = λ b es j stamp s ranges h here all e.
           let start : ageIn b stamp ≡ 0 =
-          ap (λ (z : ℕ). ageAt (readTable b .clock .running) z) e ∙ age-start (readTable b .clock .running) (running-less (kept-self b s)) in
+          ap (λ (z : ℕ). ageAt (readTable b .clock .running) z) e ∙ fresh-age (readTable b .clock .running) in
           grows b es j stamp s ranges h here all ∙ omega arith;
     }

@@ -1,5 +1,17 @@
 -- What ties a table to the tally along a list of calls. Assumes nothing.
-use Prim.Native.Nat.{ℕ}
+pub mod TallyRules
+pub mod NumberSearch
+pub mod HoldingFacts
+pub mod OneMatch
+pub mod MoveKeeps
+pub mod OptionArguments
+pub mod ChangeKeeps
+pub mod ResponseKeeps
+pub mod RefreshKeeps
+pub mod SetupKeeps
+pub mod OptionKeeps
+pub mod DatagramKeeps
+pub mod TableTally
 use mathlib.Core.Path.{_≡_}
 use mathlib.Core.Bool.{Bool}
 use lib.ListN.{length}

@@ -37,6 +37,9 @@ pub record StillHeld (u : Table) (j : ℕ) (e : Entry) : Type 0 where
   pub number : entry .number ≡ e .number
   pub address : entry .address ≡ e .address
   pub port : entry .port ≡ e .port
+  pub name : entry .name ≡ e .name
+  pub qtype : entry .qtype ≡ e .qtype
+  pub qclass : entry .qclass ≡ e .qclass
 
 -- AN ENTRY e IN SLOT j, pending before an answered datagram and not run out at the moved count
 pub record Pending (c : ServeCall) (t : Table) (j : ℕ) (e : Entry) : Type 0 where

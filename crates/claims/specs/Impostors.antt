@@ -19,7 +19,7 @@ use Rattle.claims.specs.Pins.{challenge as w11Reply}
 abbrev pub Does : Type 0
 Does = Sender → ℕ → Question → LlqOption → Table → Served
 
--- A SERVER FROM ITS PARTS: how a call moves the table on, how many entries that frees, and what one option does
+-- A SERVER FROM ITS PARTS: how a call moves the table on, and what one option does
 pub record Parts : Type 0 where
   pub moves : Table → ℕ → Table
   pub option : Does

@@ -12,3 +12,7 @@ pub mod Impostors
 pub mod Repeats
 pub mod Others
 pub mod LiveAge
+pub mod Reading
+pub mod AnySound
+pub mod Numbers
+pub mod SoundSamples

@@ -95,10 +95,21 @@ pendingPin = clockPin 0x87 5 ++ rosterPin ++ entryPin 5 ++ freePin ++ freePin ++
 abbrev pub establishedPin : List ℕ
 establishedPin = clockPin 0x8A 8 ++ rosterPin ++ entryPin 6 ++ freePin ++ freePin ++ freePin
 
+-- a roster of one line: kind 3, address 16 (192.0.2.9, mapped), share 1, limit 2
+abbrev pub linePin : List ℕ
+linePin = 3 ∷ 0 ∷ 0 ∷ 0 ∷ 0 ∷ 0 ∷ 0 ∷ 0 ∷ 0 ∷ 0 ∷ 0 ∷ 0xFF ∷ 0xFF ∷ 0xC0 ∷ 0 ∷ 0x02 ∷ 0x09 ∷ 1 ∷ 2 ∷ []
+
+-- the table of one slot that it is made with, 633 bytes: the line stands first, 15 unused lines behind it
+abbrev pub listedPin : List ℕ
+listedPin =
+    clockPin 0x82 0 ++ linePin ++ unusedPin ++ unusedPin ++ unusedPin ++ unusedPin ++ unusedPin ++ unusedPin ++ unusedPin ++ unusedPin ++ unusedPin ++ unusedPin ++ unusedPin
+    ++ unusedPin ++ unusedPin ++ unusedPin ++ unusedPin ++ freePin
+
 -- a server makes, challenges and acknowledges as written out; 8 bytes past each reply keep what they held
 pub record Pinned (s : Server) : Type 0 where
   pub size : length madePin ≡ 1593
   pub made : s .make makeCall (replicate 1593 0xEE) ≡ record { number = 0; table = madePin }
+  pub listed : s .make (record { week = 1; second = 2; roster = linePin }) (replicate 633 0xEE) ≡ record { number = 0; table = listedPin }
   pub challenged : s .serve setupCall madePin (replicate 60 0xAA) ≡ record { number = 0; length = 52; table = pendingPin; reply = challenge ++ replicate 8 0xAA }
   pub acknowledged : s .serve responseCall pendingPin (replicate 60 0xAA)
       ≡ record { number = 0; length = 52; table = establishedPin; reply = acknowledgment ++ replicate 8 0xAA }

@@ -119,13 +119,7 @@ pub only-one : (from to : ℕ) → from < cycle → to < cycle → (z k : ℤ) �
     → z ≡ step from to
 only-one from to hf ht z k e lo hi = only-natural from to hf ht z k e lo hi ∙ sym (step-natural from to hf ht)
 
--- a step forward is the distance ahead, below half a cycle
-pub step-forward : (from to n : ℕ) → from < cycle → to < cycle → step from to ≡ pos n → (n < 309657600) × (n ≡ ahead from to)
-step-forward from to n hf ht e =
-    let z : Near (pos n) (ahead from to) = rw e at (near from to hf ht) in
-    ⊎-elim (λ h. (omega (arith, h .1 .is), omega (arith, h .1 .is))) (λ h. absurd (omega (arith, h .1 .is))) z
-
--- and the other way
+-- a step forward is the distance ahead, below half a cycle; from there on it is a step back
 pub forward-step : (from to : ℕ) → from < cycle → to < cycle → ahead from to < 309657600 → step from to ≡ pos (ahead from to)
 forward-step from to hf ht h = step-natural from to hf ht ∙ (rw (lt-ltb _ _ h))
 
@@ -169,9 +163,6 @@ unfolding advance
 advance-running c to h = moved-running c to (step (c .place) to) h
 
 -- AGES
-
-pub age-lt : (running stamp : ℕ) → ageAt running stamp < 2 ^ 32
-age-lt running stamp = omega arith
 
 -- as the count goes on by d, an age does too
 pub ages : (running stamp d : ℕ) → running < 2 ^ 32 → stamp < 2 ^ 32 → ageAt running stamp + d < 2 ^ 32

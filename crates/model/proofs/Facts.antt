@@ -10,10 +10,11 @@ use lib.Dec.{eqb, leb, ltb}
 use borrow.Author.Tests.{eqb-true, eq-eqb, leb-true, le-leb, ltb-true, lt-ltb}
 use Rattle.model.specs.Lists.{bit, count, any, every, noTwo, same}
 use Rattle.model.specs.Clock.{cycle}
+use Rattle.model.specs.Query.{Question}
 use Rattle.model.specs.Table.{Line, Table}
-use Rattle.model.specs.Rules.{Holding, holdings, heldBy, numbered, limitOf, reserve, shares}
+use Rattle.model.specs.Rules.{Holding, holdings, heldBy, numbered, asks, limitOf, reserve, shares}
 use Rattle.model.specs.Sound.{validLine, sameAddress, nonZeroNumber, validLease, live, validName, validEntry, sameNumber, sameQuestion, Sound, soundRoster, soundHoldings, soundTable}
-use Rattle.model.proofs.ListLaws.{and-left, and-right, count-flip, every-none, none-every, every-all, every-both, one-at-most, at-most-one, same-true, same-refl}
+use Rattle.model.proofs.ListLaws.{and-left, and-right, eqb-sym, same-sym, count-mono, count-flip, every-none, none-every, every-all, every-both, one-at-most, at-most-one, same-true, same-refl}
 
 -- QUESTIONS
 
@@ -65,6 +66,16 @@ agreed x y g =
     )
     (same-refl (y .name))
 
+pub same-question-sym : (x y : Holding) → sameQuestion x y ≡ sameQuestion y x
+same-question-sym x y =
+    rw (
+      eqb-sym (x .address) (y .address),
+      eqb-sym (x .port) (y .port),
+      eqb-sym (x .qtype) (y .qtype),
+      eqb-sym (x .qclass) (y .qclass),
+      same-sym (x .name) (y .name),
+    )
+
 pub same-question-via : (k x y : Holding) → sameQuestion k x ≡ true → sameQuestion k y ≡ true → sameQuestion x y ≡ true
 same-question-via k x y p q =
     let g = agree k x p in
@@ -77,6 +88,21 @@ same-question-via k x y p q =
       qclass = sym (g .qclass) ∙ h .qclass;
       name = sym (g .name) ∙ h .name;
     })
+
+-- a holding of this address, port and question: `asks` of them is `sameQuestion` with it
+abbrev pub asker : ℕ → ℕ → Question → Holding
+asker a p q =
+    record { established = false; address = a; port = p; number = 0; lease = 0; age = 0; qtype = q .qtype; qclass = q .qclass; name = q .name }
+
+-- in a sound table at most one entry passes a test that only those of one address, port and question pass
+pub one-asks : (t : Table) → Sound t → (a p : ℕ) (q : Question) (m : Holding → Bool) → ((h : Holding) → m h ≡ true → asks a p q h ≡ true)
+    → count (holdings t) m ≤ 1
+one-asks t s a p q m i =
+    omega (
+      arith,
+      s .questions (asker a p q),
+      count-mono (holdings t) m (sameQuestion (asker a p q)) (λ h e. same-question-sym (asker a p q) h ∙ i h e),
+    )
 
 -- a rule of each holding's address is a rule of every address that holds
 by-address : (p : ℕ → Bool) (l : List Holding) (a : ℕ) → every (λ h. p (h .address)) l ≡ true → (count l (heldBy a) ≡ 0) ⊎ (p a ≡ true)

@@ -1,22 +1,22 @@
 -- The entries of the slots: how many pass a test, what a slot written over, freed or aged does to that, and the first entry that passes.
 -- Assumes nothing.
-use Prim.Native.Nat.{ℕ, _+_, _≤_, _<_}
+use Prim.Native.Nat.{ℕ, _+_, _-_, _≤_, _<_}
 use native.Mathlib.Nat.{eq-or-lt-of-le}
 use native.Mathlib.Omega.{arith}
 use mathlib.Core.Path.{_≡_, refl, sym, ap, _∙_}
-use mathlib.Core.Bool.{Bool, true, false, cond}
+use mathlib.Core.Bool.{Bool, true, false, not, cond, _&&_}
 use mathlib.Core.List.{List, [], _∷_, _++_, append-nil, map}
 use mathlib.Core.Logic.{⊎-elim}
 use lib.ListN.{length, getD, set}
-use lib.Dec.{leb, ltb}
-use borrow.Author.Tests.{leb-true, leb-false, lt-ltb, le-ltb, ltb-true, ltb-false}
+use lib.Dec.{eqb, leb, ltb}
+use borrow.Author.Tests.{eqb-true, leb-true, leb-false, lt-ltb, le-ltb, ltb-true, ltb-false}
 use Rattle.model.specs.Lists.{bit, count, any, keep, indexOf, upTo}
 use Rattle.model.specs.Clock.{ageAt}
-use Rattle.model.specs.Table.{Entry, Slot, free, held, Table}
-use Rattle.model.specs.Rules.{Holding, holding, entriesOf, holdings}
-use Rattle.model.specs.Sound.{live}
+use Rattle.model.specs.Table.{Line, Entry, Slot, free, held, Table}
+use Rattle.model.specs.Rules.{Holding, holding, entriesOf, holdings, Counts, heldBy, shareOf, limitOf, reserve, full}
+use Rattle.model.specs.Sound.{live, Sound}
 use Rattle.model.specs.Serve.{slotRunOut, freeIfRunOut, isFree, has, findEntry, slotOf}
-use Rattle.model.proofs.ListLaws.{never, count-set, count-any, count-at, getD-past, upTo-next, index-le, index-hit, index-none, none-index, index-some, one-place}
+use Rattle.model.proofs.ListLaws.{never, or-right, count-set, count-any, count-at, getD-past, upTo-next, index-le, index-hit, index-none, none-index, index-some, one-place}
 
 -- FREE AND HELD
 
@@ -87,7 +87,7 @@ module _ (r : ℕ) where
   unfolding has
   bit-free p s q = rw q
 
-  bit-held : (p : Holding → Bool) (s : Slot) (e : Entry) → s ≡ held e → bit (has r p s) ≡ bit (p (holding r e))
+  pub bit-held : (p : Holding → Bool) (s : Slot) (e : Entry) → s ≡ held e → bit (has r p s) ≡ bit (p (holding r e))
   unfolding has
   bit-held p s e q = rw q
 
@@ -159,6 +159,15 @@ module _ (r : ℕ) where
   count-held s i e p q h =
       rw (count-entries s p) (count-at s i free (has r p) (held-in s i e q) (holds-has p (getD s i free) e q h))
 
+  -- a rule that no entry breaks is a rule of each
+  pub held-obeys : (s : List Slot) (i : ℕ) (e : Entry) (p : Holding → Bool) → getD s i free ≡ held e → count (entriesOf r s) (λ h. not (p h)) ≡ 0
+      → p (holding r e) ≡ true
+  held-obeys s i e p q z = go (p (holding r e)) refl
+    where
+      go : (v : Bool) → p (holding r e) ≡ v → v ≡ true
+      go true f = refl
+      go false f = absurd (omega (arith, count-held s i e (λ h. not (p h)) q (ap not f)))
+
 -- THE FIRST THAT PASSES, in the table
 
 module _ (p : Holding → Bool) (t : Table) where
@@ -227,6 +236,36 @@ is-free (held e) h = never h refl
 pub free-slot : (s : List Slot) → indexOf isFree s < length s → getD s (indexOf isFree s) free ≡ free
 free-slot s h = is-free (getD s (indexOf isFree s) free) (index-hit isFree s free h)
 
--- where an entry would still fit, there is one
+-- where there are fewer entries than slots, there is one
 pub free-in : (r : ℕ) (s : List Slot) → count (entriesOf r s) any < length s → indexOf isFree s < length s
 free-in r s h = index-some isFree s (omega (arith, count-free r s))
+
+-- an address below its share has some of the reserve
+share-reserved : (ls : List Line) (c : Counts) (a : ℕ) → shareOf ls a ≤ reserve ls c + c (heldBy a)
+unfolding shareOf reserve
+share-reserved [] c a = omega arith
+share-reserved (l ∷ ls) c a = go (eqb (l .address) a) refl (share-reserved ls c a)
+  where
+    go : (v : Bool) → eqb (l .address) a ≡ v → shareOf ls a ≤ reserve ls c + c (heldBy a)
+        → cond v (l .share) (shareOf ls a) ≤ l .share - c (heldBy (l .address)) + reserve ls c + c (heldBy a)
+    go true e h = let z : c (heldBy (l .address)) ≡ c (heldBy a) = ap (λ (x : ℕ). c (heldBy x)) (eqb-true (l .address) a e) in omega arith
+    go false e h = omega arith
+
+-- of a sound table: an address that is not full finds one
+pub room-left : (t : Table) (a : ℕ) → Sound t → full (length (t .slots)) (t .roster) (count (holdings t)) a ≡ false
+    → count (holdings t) any < length (t .slots)
+unfolding full
+room-left t a x h = go (leb (shareOf (t .roster) a) k) refl (or-right (leb (limitOf (t .roster) a) k) _ h)
+  where
+    c : Counts
+    c = count (holdings t)
+
+    n : ℕ
+    n = length (t .slots)
+
+    k : ℕ
+    k = c (heldBy a)
+
+    go : (s : Bool) → leb (shareOf (t .roster) a) k ≡ s → s && leb (n - c any) (reserve (t .roster) c) ≡ false → c any < n
+    go true e f = omega (arith, leb-false (n - c any) (reserve (t .roster) c) f)
+    go false e f = omega (arith, leb-false (shareOf (t .roster) a) k e, share-reserved (t .roster) c a, x .reserved)

@@ -67,11 +67,7 @@ pub diff-of : (z : ℤ) → Diff z (up z) (down z)
 diff-of (pos n) = omega arith
 diff-of (negsuc n) = omega arith
 
--- two differences of one integer, and two integers of one difference
-pub diff-only : {z : ℤ} {a b c d : ℕ} → Diff z a b → Diff z c d → a + d ≡ c + b
-diff-only {z = pos n} p q = omega arith
-diff-only {z = negsuc n} p q = omega arith
-
+-- two integers of one difference are one
 pub diff-eq : {x y : ℤ} {a b c d : ℕ} → Diff x a b → Diff y c d → a + d ≡ c + b → x ≡ y
 diff-eq {x = pos m} {y = pos n} p q e = ap pos (omega arith)
 diff-eq {x = pos m} {y = negsuc n} p q e = absurd (omega arith)

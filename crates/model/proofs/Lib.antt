@@ -11,3 +11,5 @@ pub mod NameLaws
 pub mod HoldingLaws
 pub mod FreshLaws
 pub mod StepLaws
+pub mod QueryLaws
+pub mod CallLaws

@@ -3,13 +3,13 @@ use Prim.Native.Nat.{ℕ, zero, suc, _+_, _*_, _≤_, _<_}
 use native.Mathlib.Nat.{eq-or-lt-of-le, mul-suc, mul-zero}
 use native.Mathlib.Omega.{arith}
 use mathlib.Core.Path.{_≡_, refl, sym, ap, _∙_, fun-ext}
-use mathlib.Core.Bool.{Bool, true, false, not, cond, _&&_, _||_, and-true, and-assoc}
+use mathlib.Core.Bool.{Bool, true, false, not, cond, _&&_, _||_, and-true, and-assoc, Bool·not-not}
 use mathlib.Core.List.{List, [], _∷_, _++_, append-nil, append-assoc, map}
 use mathlib.Core.Logic.{_⊎_, inl, inr, ⊎-elim}
 use lib.ListN.{length, getD, drop, set, length-append, List·getD-append}
 use lib.Seq.{ext-getD, take-add, drop-drop, getD-at}
-use lib.Dec.{eqb}
-use borrow.Author.Tests.{eqb-true, eqb-false, eq-eqb, not-true}
+use lib.Dec.{eqb, leb, ltb}
+use borrow.Author.Tests.{eqb-true, eqb-false, eq-eqb, ltb-true, ltb-false, le-leb, lt-leb, not-true}
 use Rattle.model.specs.Lists.{bit, count, any, keep, every, noTwo, indexOf, upTo, flat, same}
 use Rattle.model.specs.Numbers.{part}
 use Rattle.model.proofs.NumberLaws.{length-part, part-none}
@@ -19,6 +19,10 @@ use Rattle.model.proofs.NumberLaws.{length-part, part-none}
 pub bit-le : (b : Bool) → bit b ≤ 1
 bit-le true = omega arith
 bit-le false = omega arith
+
+pub bit-zero : (b : Bool) → bit b ≡ 0 → b ≡ false
+bit-zero true e = absurd (omega arith)
+bit-zero false e = refl
 
 pub test : (b : Bool) → (b ≡ true) ⊎ (b ≡ false)
 test true = inl refl
@@ -49,6 +53,29 @@ and-right false b e = never e refl
 pub and-both : (a b : Bool) → a ≡ true → b ≡ true → a && b ≡ true
 and-both a b p q = rw (p, q)
 
+pub or-left : (a b : Bool) → a || b ≡ false → a ≡ false
+or-left true b e = e
+or-left false b e = refl
+
+pub or-right : (a b : Bool) → a || b ≡ false → b ≡ false
+or-right true b e = never {b = true} refl e
+or-right false b e = e
+
+-- where not both pass, the first fails, or it passes and the second fails
+pub not-both {ℓ} : {P : Type ℓ} (a b : Bool) → (a ≡ false → P) → (a ≡ true → b ≡ false → P) → a && b ≡ false → P
+not-both true b f g h = g refl h
+not-both false b f g h = f refl
+
+-- where one passes
+pub one-of {ℓ} : {P : Type ℓ} (a b : Bool) → (a ≡ true → P) → (b ≡ true → P) → a || b ≡ true → P
+one-of true b f g h = f refl
+one-of false b f g h = g h
+
+-- what holds of both branches holds of the choice
+pub either : {A : Type 0} (P : A → Type 0) (v : Bool) {a b : A} → P a → P b → P (cond v a b)
+either P true p q = p
+either P false p q = q
+
 pub swap : (a b c d : Bool) → (a && b) && (c && d) ≡ (a && c) && (b && d)
 swap true true c d = refl
 swap true false true d = refl
@@ -59,9 +86,16 @@ pub not-or : (a b : Bool) → not (a || b) ≡ not a && not b
 not-or true b = refl
 not-or false b = refl
 
-pub not-not : (a : Bool) → not (not a) ≡ a
-not-not true = refl
-not-not false = refl
+pub not-and : (a b : Bool) → not (a && b) ≡ not a || not b
+not-and true b = refl
+not-and false b = refl
+
+pub not-less : (a b : ℕ) → not (ltb a b) ≡ leb b a
+not-less a b =
+    ⊎-elim
+    (λ (t : ltb a b ≡ true). rw t (sym (lt-leb b a (ltb-true a b t))))
+    (λ (t : ltb a b ≡ false). rw t (sym (le-leb b a (ltb-false a b t))))
+    (test (ltb a b))
 
 pub eqb-sym : (x y : ℕ) → eqb x y ≡ eqb y x
 eqb-sym x y = iff (eqb x y) (eqb y x) (λ e. eq-eqb y x (sym (eqb-true x y e))) (λ e. eq-eqb x y (sym (eqb-true y x e)))
@@ -118,16 +152,6 @@ module _ {A : Type 0} where
   pub count-le : (l : List A) (p : A → Bool) → count l p ≤ length l
   count-le [] p = omega arith
   count-le (x ∷ l) p = omega (arith, bit-le (p x), count-le l p)
-
-  -- those that pass and those that do not are all
-  pub count-not : (l : List A) (p : A → Bool) → count l p + count l (λ x. not (p x)) ≡ length l
-  count-not [] p = refl
-  count-not (x ∷ l) p = go (p x) (count-not l p)
-    where
-      go : (b : Bool) → count l p + count l (λ x. not (p x)) ≡ length l
-          → bit b + count l p + (bit (not b) + count l (λ x. not (p x))) ≡ suc (length l)
-      go true e = omega arith
-      go false e = omega arith
 
   -- one element written over
   pub count-set : (l : List A) (i : ℕ) (x d : A) (p : A → Bool) → i < length l → count (set l i x) p + bit (p (getD l i d)) ≡ count l p + bit (p x)
@@ -222,10 +246,10 @@ module _ {A : Type 0} where
 
   -- each fails exactly if none passes
   pub every-not : (p : A → Bool) (l : List A) → every (λ x. not (p x)) l ≡ true → count l p ≡ 0
-  every-not p l h = count-ext l p (λ x. not (not (p x))) (λ x. sym (not-not (p x))) ∙ every-none (λ x. not (p x)) l h
+  every-not p l h = count-ext l p (λ x. not (not (p x))) (λ x. sym (Bool·not-not (p x))) ∙ every-none (λ x. not (p x)) l h
 
   pub not-every : (p : A → Bool) (l : List A) → count l p ≡ 0 → every (λ x. not (p x)) l ≡ true
-  not-every p l h = none-every (λ x. not (p x)) l (count-ext l (λ x. not (not (p x))) p (λ x. not-not (p x)) ∙ h)
+  not-every p l h = none-every (λ x. not (p x)) l (count-ext l (λ x. not (not (p x))) p (λ x. Bool·not-not (p x)) ∙ h)
 
   pub every-all : (p : A → Bool) (l : List A) → ((x : A) → p x ≡ true) → every p l ≡ true
   unfolding every
@@ -239,13 +263,6 @@ module _ {A : Type 0} where
 
   pub every-ext : (p q : A → Bool) (l : List A) → ((x : A) → p x ≡ q x) → every p l ≡ every q l
   every-ext p q l h = ap (λ (f : A → Bool). every f l) (fun-ext h)
-
-  -- where each passes, all are kept
-  pub keep-every : (p : A → Bool) (l : List A) → every p l ≡ true → keep p l ≡ l
-  unfolding keep every
-  keep-every p [] h = refl
-  keep-every p (x ∷ l) h =
-      let e : p x ≡ true = and-left (p x) (every p l) h in rw e (ap {B = List A} (λ z. x ∷ z) (keep-every p l (and-right (p x) (every p l) h)))
 
   pub noTwo-nil : (q : A → A → Bool) → noTwo q [] ≡ true
   unfolding noTwo
@@ -350,6 +367,12 @@ module _ {A : Type 0} where
   every-upTo zero f p = every-nil p ∙ sym (every-nil (λ (i : ℕ). p (f i)))
   every-upTo (suc n) f p =
       every-snoc p (upTo n f) (f n) ∙ ap (λ (b : Bool). b && p (f n)) (every-upTo n f p) ∙ sym (every-snoc (λ i. p (f i)) (upTo n (λ i. i)) n)
+
+-- a test that each index passes
+pub every-index : (p : ℕ → Bool) (n : ℕ) → every p (upTo n (λ i. i)) ≡ true → (i : ℕ) → i < n → p i ≡ true
+every-index p n h i l =
+    let e : getD (upTo n (λ i. i)) i 0 ≡ i = getD-upTo n (λ i. i) i 0 l in
+    rw e at (every-at p (upTo n (λ i. i)) i 0 h (rw (length-upTo n (λ (i : ℕ). i)) l))
 
 -- THE FIRST THAT PASSES
 

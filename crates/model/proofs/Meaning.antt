@@ -81,11 +81,13 @@ table-sound b h = sound-facts (readTable b) (and-right (same (tableBytes (readTa
 pub sound-means : (b : List ℕ) → Bytes b → soundBytes b ≡ true → SoundBytes b
 sound-means b bytes h = record { table = readTable b; sound = table-sound b h; fits = fits-read b bytes; bytes = bytes-back b h }
 
+-- what sound bytes are read as
+pub read-stored : (b : List ℕ) (s : SoundBytes b) → readTable b ≡ s .table
+read-stored b s = ap readTable (sym (s .bytes)) ∙ table-back (s .table) (s .sound .lines) (s .fits)
+
 pub means-sound : (b : List ℕ) → SoundBytes b → soundBytes b ≡ true
 unfolding soundBytes
-means-sound b s =
-    let back : readTable b ≡ s .table = ap readTable (sym (s .bytes)) ∙ table-back (s .table) (s .sound .lines) (s .fits) in
-    rw (back, s .bytes, same-refl b) (facts-sound (s .table) (s .sound))
+means-sound b s = rw (read-stored b s, s .bytes, same-refl b) (facts-sound (s .table) (s .sound))
 
 -- the bytes of a sound table are sound
 pub bytes-sound : (t : Table) → Sound t → Fits t → soundBytes (tableBytes t) ≡ true

@@ -9,7 +9,7 @@ use mathlib.Core.Logic.{_⊎_, inl, inr, ⊎-elim, _≢_}
 use lib.ListN.{length, getD, take, drop, length-drop}
 use lib.Seq.{drop-cons, length-take-le}
 use lib.Dec.{eqb, leb, ltb, lit<}
-use borrow.Author.Tests.{eqb-true, eq-eqb, ne-eqb, leb-true, leb-false, le-leb, lt-leb, ltb-true, lt-ltb, le-ltb}
+use borrow.Author.Tests.{eqb-true, eq-eqb, ne-eqb, leb-true, le-leb, lt-leb, ltb-true, lt-ltb, le-ltb}
 use Rattle.model.specs.Numbers.{Bytes, part}
 use Rattle.model.specs.Names.{upper, fold, nameSize, lowerName}
 use Rattle.model.specs.Query.{nameAt, goodQuestion, questionAt}
@@ -25,9 +25,6 @@ fold-cases b = ⊎-elim (λ (e : upper b ≡ true). inl (e, rw e)) (λ (e : uppe
 pub upper-is : (b : ℕ) → upper b ≡ true → (65 ≤ b) × (b ≤ 90)
 upper-is b e = (leb-true 65 b (and-left (leb 65 b) (leb b 90) e), leb-true b 90 (and-right (leb 65 b) (leb b 90) e))
 
-pub is-upper : (b : ℕ) → 65 ≤ b → b ≤ 90 → upper b ≡ true
-is-upper b l h = rw (le-leb 65 b l, le-leb b 90 h)
-
 pub below-upper : (b : ℕ) → b < 65 → upper b ≡ false
 below-upper b h = rw (lt-leb 65 b h)
 
@@ -38,10 +35,6 @@ pub fold-same : (b : ℕ) → upper b ≡ false → fold b ≡ b
 unfolding fold
 fold-same b e = rw e
 
-pub fold-upper : (b : ℕ) → upper b ≡ true → fold b ≡ b + 32
-unfolding fold
-fold-upper b e = rw e
-
 -- what is folded has no upper case
 pub fold-lower : (b : ℕ) → upper (fold b) ≡ false
 fold-lower b =
@@ -49,9 +42,6 @@ fold-lower b =
     (λ (h : (upper b ≡ true) × (fold b ≡ b + 32)). rw (h .1) (above-upper (b + 32) (omega (arith, upper-is b (h .0) .0))))
     (λ (h : (upper b ≡ false) × (fold b ≡ b)). rw (h .1) (h .0))
     (fold-cases b)
-
-pub fold-fold : (b : ℕ) → fold (fold b) ≡ fold b
-fold-fold b = fold-same (fold b) (fold-lower b)
 
 -- bytes stay bytes
 pub fold-byte : (b : ℕ) → b < 256 → fold b < 256
@@ -108,13 +98,6 @@ name-bounds zero n (b ∷ s) h = go (eqb b 0) (ltb b 64) h (name-bounds b (n + 1
     go false true i r = let q = r i in (omega arith, omega arith)
     go false false i r = absurd (omega arith)
 name-bounds (suc k) n (b ∷ s) h = let q = name-bounds k (n + 1) s h in (omega arith, omega arith)
-
-pub name-le : (s : List ℕ) → nameSize 0 0 s ≤ length s
-name-le s = go (leb 1 (nameSize 0 0 s)) refl
-  where
-    go : (v : Bool) → leb 1 (nameSize 0 0 s) ≡ v → nameSize 0 0 s ≤ length s
-    go true e = omega (arith, name-bounds 0 0 s (leb-true _ _ e) .1)
-    go false e = omega (arith, leb-false 1 (nameSize 0 0 s) e)
 
 -- THE FOLDED BYTES of a name are a stored name
 

@@ -2,24 +2,23 @@
 -- Assumes nothing.
 use Prim.Native.Nat.{ℕ, zero, suc, _+_, _%_, _^_, _≤_, _<_}
 use native.Mathlib.Omega.{arith}
-use mathlib.Core.Path.{_≡_, refl, ap, _∙_}
+use mathlib.Core.Path.{_≡_, refl, ap}
 use mathlib.Core.Bool.{Bool, true, false, not, cond}
 use mathlib.Core.List.{List, [], _∷_, map}
 use mathlib.Core.Logic.{_⊎_, inl, inr}
 use lib.ListN.{length, getD, set, length-set}
 use lib.Dec.{eqb, leb, ltb}
-use lib.IntN.{pos, negsuc}
 use borrow.Author.Tests.{leb-true, ltb-true, ltb-false, not-true}
 use Rattle.model.specs.Lists.{count, keep, every, indexOf}
 use Rattle.model.specs.Numbers.{Bytes}
-use Rattle.model.specs.Clock.{Clock, cycle, step, advance, ageAt}
+use Rattle.model.specs.Clock.{Clock, cycle, advance, ageAt}
 use Rattle.model.specs.Query.{Question, LlqOption, goodQuestion, questionAt}
 use Rattle.model.specs.Table.{Entry, Slot, free, held, Table}
 use Rattle.model.specs.Rules.{Holding, holding, entriesOf, holdings, asks, full, grantedLease}
 use Rattle.model.specs.Sound.{live, validLease, FitsEntry, FitsSlot, Fits, Sound}
 use Rattle.model.specs.Serve.{withClock, withSlot, slotRunOut, freeIfRunOut, freeRunOut, movedOn, isFree, findEntry, slotOf, Sender, Kind, badVersion, badFormat, setup, response, refresh, Served, kindOfOption, newEntry, retryLater, granted, establish, renew, answers, refreshes, onSetup, serveSetup, onResponse, serveResponse, onRefresh, serveRefresh, serveKind, serveOption}
-use Rattle.model.proofs.ListLaws.{test, and-left, and-right, none-every, count-both, keep-every, getD-past, length-map}
-use Rattle.model.proofs.ClockLaws.{advance-place, advance-running, advance-on, advance-back, step-forward, ages}
+use Rattle.model.proofs.ListLaws.{test, and-left, and-right, none-every, count-both, getD-past, length-map}
+use Rattle.model.proofs.ClockLaws.{advance-place, advance-running, ages}
 use Rattle.model.proofs.NameLaws.{question-short, question-bytes, question-qtype, question-qclass}
 use Rattle.model.proofs.FreshLaws.{fresh-lt}
 use Rattle.model.proofs.HoldingLaws.{entries-freed}
@@ -300,20 +299,3 @@ young t n l s =
             let v = leb-true (h .lease) 7200 (and-right (leb 60 (h .lease)) (leb (h .lease) 7200) g) in
             let w = ltb-false (h .age + n) (2 ^ 32) (not-true (ltb (h .age + n) (2 ^ 32)) p) in
             absurd (omega arith)
-
--- of a sound table, a step forward: its entries are n seconds older, and those that have run out are gone
-pub moved-forward : (t : Table) (to n : ℕ) → Sound t → Fits t → to < cycle → step (t .clock .place) to ≡ pos n
-    → holdings (movedOn t to) ≡ keep live (map (older n) (holdings t))
-moved-forward t to n s f l e =
-    let a : advance (t .clock) to .running ≡ (t .clock .running + n) % 2 ^ 32 = ap (λ (c : Clock). c .running) (advance-on (t .clock) to n e) in
-    let m = step-forward (t .clock .place) to n (s .place) l e .0 in
-    moved-holdings t to
-    ∙ ap (λ (z : ℕ). keep live (entriesOf z (t .slots))) a
-    ∙ ap (keep live) (entries-older (t .clock .running) n (t .slots) (f .running) (f .slots) (young t n m s))
-
--- a step back: nothing changes
-pub moved-back : (t : Table) (to n : ℕ) → Sound t → step (t .clock .place) to ≡ negsuc n → holdings (movedOn t to) ≡ holdings t
-moved-back t to n s e =
-    let a : advance (t .clock) to ≡ t .clock = advance-back (t .clock) to n e in
-    moved-holdings t to ∙ ap (λ (c : Clock). keep live (entriesOf (c .running) (t .slots))) a
-    ∙ keep-every live (holdings t) (none-every live (holdings t) (s .ages))

@@ -1,6 +1,8 @@
 -- Document 01's rules of holdings: who holds what, share, limit, reserve, full, the granted lease, the number search. Assumes nothing.
 -- A rule that asks how many entries there are of a kind takes the count of holdings by a test.
-use Prim.Native.Nat.{ℕ, zero, suc, _+_, _-_, _%_, _^_, min, max}
+use Prim.Native.Nat.{ℕ, zero, suc, _+_, _-_, _%_, _^_, _≤_, _<_, min, max}
+use mathlib.Core.Path.{_≡_}
+use mathlib.Core.Logic.{_⊎_, _≢_}
 use mathlib.Core.Bool.{Bool, true, false, not, cond, _&&_, _||_}
 use mathlib.Core.List.{List, [], _∷_}
 use lib.Dec.{eqb, leb, ltb}
@@ -95,3 +97,18 @@ grantedLease asked = max 60 (min asked 7200)
 unfoldable pub freshNumber : ℕ → Counts → ℕ → ℕ
 freshNumber zero c r = 0
 freshNumber (suc k) c r = cond (eqb (r % 2 ^ 64) 0 || leb 1 (c (numbered (r % 2 ^ 64)))) (freshNumber k c (suc r)) (r % 2 ^ 64)
+
+-- The same rule in plain words, which the search meets (model/proofs, FreshLaws; claims, Numbers).
+
+-- 0, or in use
+abbrev pub Taken : Counts → ℕ → Type 0
+Taken c x = (x ≡ 0) ⊎ (1 ≤ c (numbered x))
+
+-- x is the first of r, r + 1, .. that is not taken
+pub record FirstFree (c : Counts) (r x : ℕ) : Type 0 where
+  -- how many are passed
+  pub tries : ℕ
+  pub is : x ≡ (r + tries) % 2 ^ 64
+  pub nonZero : x ≢ 0
+  pub unused : c (numbered x) ≡ 0
+  pub earlier : (j : ℕ) → j < tries → Taken c ((r + j) % 2 ^ 64)

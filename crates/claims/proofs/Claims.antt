@@ -1,0 +1,81 @@
+-- The claims, all proved of the model's server. Assumes nothing.
+use Rattle.model.specs.Meets.{Server, model}
+use Rattle.claims.specs.Refusals.{Refusals}
+use Rattle.claims.specs.Changes.{Changes}
+use Rattle.claims.specs.Others.{KeepsOthers}
+use Rattle.claims.specs.Established.{EstablishedExactly}
+use Rattle.claims.specs.Tick.{Ticking}
+use Rattle.claims.specs.Demand3.{Demand3}
+use Rattle.claims.specs.Samples.{Samples}
+use Rattle.claims.specs.SoundSamples.{SoundSamples}
+use Rattle.claims.specs.Pins.{Pinned}
+use Rattle.claims.specs.Reply.{ReplyClaim}
+use Rattle.claims.specs.Reading.{ReadsQueries}
+use Rattle.claims.specs.AnySound.{AnySound}
+use Rattle.claims.specs.LiveAge.{LiveAge}
+use Rattle.claims.specs.Numbers.{GrantedNumbers}
+use Rattle.claims.specs.Repeats.{SetupRepeats, SetupTwice}
+use Rattle.claims.proofs.Refusals.{refusals}
+use Rattle.claims.proofs.Changes.{changes}
+use Rattle.claims.proofs.Others.{keeps-others}
+use Rattle.claims.proofs.Established.{established-exactly}
+use Rattle.claims.proofs.Tick.{ticking}
+use Rattle.claims.proofs.Demand3.{demand3}
+use Rattle.claims.proofs.Samples.{samples-hold, sound-samples-hold, pinned}
+use Rattle.claims.proofs.Reply.{reply-claim}
+use Rattle.claims.proofs.Reading.{reads-queries}
+use Rattle.claims.proofs.AnySound.{any-sound}
+use Rattle.claims.proofs.LiveAge.{live-age}
+use Rattle.claims.proofs.Numbers.{granted-numbers}
+use Rattle.claims.proofs.Repeats.{setup-repeats, setup-twice}
+
+pub record Claims (s : Server) : Type 0 where
+  -- 1: each number is given exactly if its condition holds and none of a lower number; a refusal changes nothing
+  pub refusals : Refusals s
+  -- 2: what a datagram may change, option by option, and for a whole datagram: what is not the sender's stays
+  pub changes : Changes s
+  pub others : KeepsOthers s
+  -- 3: a pending query is established exactly when it should be
+  pub established : EstablishedExactly s
+  -- 4: an answered tick moves the clock, frees run-out entries and reports how many
+  pub ticking : Ticking s
+  -- 5: demand 3, over every list of makings, datagrams and ticks on one table
+  pub demand3 : Demand3 s
+  -- 6: document 01's samples, W1 to W10, and W11 with the table's bytes
+  pub samples : Samples
+  pub pinned : Pinned s
+  pub soundSamples : SoundSamples
+  -- 7: an answered datagram's reply, place by place
+  pub reply : ReplyClaim s
+  -- 8: what a query holds, told by the datagram's bytes
+  pub reading : ReadsQueries
+  -- demand 3's facts from any sound table on
+  pub anySound : AnySound s
+  -- a live entry's age is the sum of the forward steps since its stamp
+  pub liveAge : LiveAge s
+  -- a setup sent again gets what it got
+  pub setupRepeats : SetupRepeats
+  pub setupTwice : SetupTwice
+  -- the number granted is the first that is neither 0 nor in use
+  pub numbers : GrantedNumbers
+
+pub claims : Claims model
+claims =
+    record {
+      refusals = refusals;
+      changes = changes;
+      others = keeps-others;
+      established = established-exactly;
+      ticking = ticking;
+      demand3 = demand3;
+      samples = samples-hold;
+      pinned = pinned;
+      soundSamples = sound-samples-hold;
+      reply = reply-claim;
+      reading = reads-queries;
+      anySound = any-sound;
+      liveAge = live-age;
+      setupRepeats = setup-repeats;
+      setupTwice = setup-twice;
+      numbers = granted-numbers;
+    }

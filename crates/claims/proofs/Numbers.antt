@@ -1,0 +1,12 @@
+-- The number rule holds of the model. Assumes nothing.
+use Prim.Native.Nat.{ℕ, _+_, _<_, _≤_}
+use native.Mathlib.Omega.{arith}
+use lib.ListN.{length}
+use Rattle.model.specs.Rules.{holdings}
+use Rattle.model.proofs.HoldingLaws.{entries-le}
+use Rattle.model.proofs.FreshLaws.{fresh-first}
+use Rattle.claims.specs.Numbers.{GrantedNumbers}
+
+pub granted-numbers : GrantedNumbers
+granted-numbers t r s =
+    fresh-first (length (t .slots) + 2) (holdings t) r (omega (arith, s .slotsMax)) (omega (arith, entries-le (t .clock .running) (t .slots)))

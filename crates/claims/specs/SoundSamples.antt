@@ -1,0 +1,104 @@
+-- Sound and unsound tables at the ends of each rule, computed beside expected. Assumes nothing.
+use Prim.Native.Nat.{ℕ, _+_, _*_}
+use mathlib.Core.Path.{_≡_}
+use mathlib.Core.Bool.{Bool, true, false}
+use mathlib.Core.List.{List, [], _∷_, _++_}
+use lib.ListN.{replicate, set}
+use Rattle.model.specs.Table.{Line, Entry, Slot, free, held, Table, tableBytes}
+use Rattle.model.specs.Sound.{soundTable, soundBytes}
+
+-- a pending entry of address 9, of age 0 at a running count of 100
+abbrev pub entry : ℕ → ℕ → ℕ → ℕ → List ℕ → Slot
+entry port number lease stamp name =
+    held (record { established = false; address = 9; port = port; number = number; lease = lease; stamp = stamp; qtype = 12; qclass = 1; name = name })
+
+abbrev pub line : ℕ → ℕ → ℕ → Line
+line address share limit = record { address = address; share = share; limit = limit }
+
+abbrev pub table : ℕ → List Line → List Slot → Table
+table place ls ss = record { clock = record { place = place; running = 100 }; roster = ls; slots = ss }
+
+-- one entry, by its number, lease, stamp and name, beside a free slot
+abbrev pub one : ℕ → ℕ → ℕ → List ℕ → Bool
+one number lease stamp name = soundTable (table 5 [] (entry 1 number lease stamp name ∷ free ∷ []))
+
+-- two entries, by the second's port and number
+abbrev pub two : ℕ → ℕ → Bool
+two port number = soundTable (table 5 [] (entry 1 7 60 100 (1 ∷ 97 ∷ 0 ∷ []) ∷ entry port number 60 100 (1 ∷ 97 ∷ 0 ∷ []) ∷ []))
+
+-- four entries of address 9, and a fifth, with a roster
+abbrev pub name : List ℕ
+name = 1 ∷ 97 ∷ 0 ∷ []
+
+abbrev pub four : List Slot
+four = entry 1 11 60 100 name ∷ entry 2 12 60 100 name ∷ entry 3 13 60 100 name ∷ entry 4 14 60 100 name ∷ []
+
+abbrev pub five : List Line → Bool
+five ls = soundTable (table 5 ls (four ++ (entry 5 15 60 100 name ∷ free ∷ [])))
+
+-- a roster on two free slots
+abbrev pub roster : List Line → Bool
+roster ls = soundTable (table 5 ls (free ∷ free ∷ []))
+
+-- the bytes of a table of one entry and one free slot, with byte i changed to x
+abbrev pub damaged : ℕ → ℕ → Bool
+damaged i x = soundBytes (set (tableBytes (table 5 [] (entry 1 7 60 100 name ∷ free ∷ []))) i x)
+
+-- computed beside expected
+abbrev pub soundSamples : List (Bool × Bool)
+soundSamples =
+    (soundTable (table 619315199 [] (free ∷ [])), true)  -- the last place is under 619,315,200
+    ∷ (soundTable (table 619315200 [] (free ∷ [])), false)
+    ∷ (soundTable (table 5 [] []), false)  -- 1 to 64 slots
+    ∷ (soundTable (table 5 [] (replicate 64 free)), true)
+    ∷ (soundTable (table 5 [] (replicate 65 free)), false)
+    ∷ (roster (line 1 0 0 ∷ []), false)  -- share at most limit, limit 1 to 64
+    ∷ (roster (line 1 2 1 ∷ []), false)
+    ∷ (roster (line 1 0 64 ∷ []), true)
+    ∷ (roster (line 1 0 65 ∷ []), false)
+    ∷ (roster (line 1 1 1 ∷ line 2 1 1 ∷ []), true)  -- shares sum to at most n
+    ∷ (roster (line 1 1 1 ∷ line 2 2 2 ∷ []), false)
+    ∷ (roster (line 1 0 1 ∷ line 1 0 1 ∷ []), false)  -- listed addresses differ
+    ∷ (one 0 60 100 name, false)  -- numbers are non-zero
+    ∷ (one 18446744073709551615 60 100 name, true)
+    ∷ (one 7 59 100 name, false)  -- leases are 60 to 7,200
+    ∷ (one 7 7200 100 name, true)
+    ∷ (one 7 7201 100 name, false)
+    ∷ (one 7 60 41 name, true)  -- ages are under leases: 59, 60, and a stamp ahead of the count
+    ∷ (one 7 60 40 name, false)
+    ∷ (one 7 60 101 name, false)
+    ∷ (one 7 60 100 (0 ∷ []), true)  -- names: the root,
+    ∷ (one 7 60 100 [], false)  -- nothing,
+    ∷ (one 7 60 100 (1 ∷ 65 ∷ 0 ∷ []), false)  -- upper case at both ends,
+    ∷ (one 7 60 100 (1 ∷ 90 ∷ 0 ∷ []), false)
+    ∷ (one 7 60 100 (1 ∷ 64 ∷ 0 ∷ []), true)  -- beside it,
+    ∷ (one 7 60 100 (1 ∷ 91 ∷ 0 ∷ []), true)
+    ∷ (one 7 60 100 (63 ∷ (replicate 63 97 ++ (0 ∷ []))), true)  -- labels of 63 and 64 bytes,
+    ∷ (one 7 60 100 (64 ∷ (replicate 64 97 ++ (0 ∷ []))), false)
+    ∷ (one 7 60 100 (1 ∷ 97 ∷ 0 ∷ 0 ∷ []), false)  -- bytes behind the end
+    ∷ (two 2 8, true)  -- entries differ in number and in question
+    ∷ (two 2 7, false)
+    ∷ (two 1 8, false)
+    ∷ (soundTable (table 5 [] four), true)  -- limits: 4 unlisted, the line's if listed
+    ∷ (five [], false)
+    ∷ (five (line 9 0 5 ∷ []), true)
+    ∷ (five (line 7 2 2 ∷ line 9 0 5 ∷ []), false)  -- one free slot for a reserve of two
+    ∷ (damaged 0 1, true)  -- the bytes as they are, then: kinds,
+    ∷ (damaged 0 2, false)
+    ∷ (damaged 9 4, false)
+    ∷ (damaged 313 7, false)
+    ∷ (damaged 313 6, true)  -- established is as sound as pending,
+    ∷ (damaged 633 2, false)
+    ∷ (damaged 10 1, false)  -- zeros of an unused line,
+    ∷ (damaged 634 1, false)  -- of a free slot,
+    ∷ (damaged 356 1, false)  -- behind a name,
+    ∷ (damaged 632 1, false)  -- at an entry's end,
+    ∷ (damaged 352 4, false)  -- and the name's stated length
+    ∷ []
+
+abbrev pub AgreeAll : List (Bool × Bool) → Type 0
+AgreeAll [] = Unit {0}
+AgreeAll (r ∷ rs) = (r .0 ≡ r .1) × AgreeAll rs
+
+abbrev pub SoundSamples : Type 0
+SoundSamples = AgreeAll soundSamples
