@@ -51,16 +51,16 @@ unfolding has readSlot readEntry
 not-six r p b at n = rw (ne-eqb (getD b at 0) 6 n) (go (eqb (getD b at 0) 5))
   where
     go : (v : Bool) → has r (λ h. h .established && p h) (cond (v || false) (held (record {
-          established = false;
-          address = bigEndian b (at + 1) 16;
-          port = bigEndian b (at + 17) 2;
-          number = bigEndian b (at + 19) 8;
-          lease = bigEndian b (at + 27) 4;
-          stamp = bigEndian b (at + 31) 4;
-          qtype = bigEndian b (at + 35) 2;
-          qclass = bigEndian b (at + 37) 2;
-          name = part (at + 40) (getD b (at + 39) 0) b;
-        })) free) ≡ false
+      established = false;
+      address = bigEndian b (at + 1) 16;
+      port = bigEndian b (at + 17) 2;
+      number = bigEndian b (at + 19) 8;
+      lease = bigEndian b (at + 27) 4;
+      stamp = bigEndian b (at + 31) 4;
+      qtype = bigEndian b (at + 35) 2;
+      qclass = bigEndian b (at + 37) 2;
+      name = part (at + 40) (getD b (at + 39) 0) b;
+    })) free) ≡ false
     go true = refl
     go false = refl
 
@@ -140,7 +140,7 @@ pub used-hit : (b : List ℕ) (n : ℕ) → length b ≡ sizeOf n → (p : Holdi
 used-hit b n size p i l t =
     let f : ℕ → Slot = λ j. readSlot b (slotAt j) in
     let h : 1 ≤ count (slotsTo b n) (has (bigEndian b 5 4) p) =
-      count-at (slotsTo b n) i free (has (bigEndian b 5 4) p) (rw (length-upTo n f) l) (ap (has (bigEndian b 5 4) p) (getD-upTo n f i free l) ∙ t)
+    count-at (slotsTo b n) i free (has (bigEndian b 5 4) p) (rw (length-upTo n f) l) (ap (has (bigEndian b 5 4) p) (getD-upTo n f i free l) ∙ t)
     in
     rw (count-held b n size p) (le-leb _ _ h)
 

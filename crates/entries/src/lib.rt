@@ -143,7 +143,16 @@ fn slot_asks(t: &[u8], i: usize, s: Sender, name: &[u8], qtype: u16, qclass: u16
 }
 
 // Slot i has an entry of this number, sender and question whose lease is the one sent: a response finds it.
-fn slot_answers(t: &[u8], i: usize, s: Sender, name: &[u8], qtype: u16, qclass: u16, number: u64, lease: u32) -> bool
+fn slot_answers(
+    t: &[u8],
+    i: usize,
+    s: Sender,
+    name: &[u8],
+    qtype: u16,
+    qclass: u16,
+    number: u64,
+    lease: u32,
+) -> bool
     requires { ⌜ slotAt (i + 1) ≤ length (now t) ⌝ }
     ensures { λ r. ⌜ r ≡ wanted (now (t .entry)) (answers (senderOf s) (asked (now (name .entry)) qtype qclass) (sent number lease)) i ⌝ }
 {
@@ -161,7 +170,15 @@ fn slot_answers(t: &[u8], i: usize, s: Sender, name: &[u8], qtype: u16, qclass: 
 }
 
 // Slot i has an established entry of this number, sender and question: a refresh finds it.
-fn slot_refreshes(t: &[u8], i: usize, s: Sender, name: &[u8], qtype: u16, qclass: u16, number: u64) -> bool
+fn slot_refreshes(
+    t: &[u8],
+    i: usize,
+    s: Sender,
+    name: &[u8],
+    qtype: u16,
+    qclass: u16,
+    number: u64,
+) -> bool
     requires { ⌜ slotAt (i + 1) ≤ length (now t) ⌝ }
     ensures { λ r. ⌜ r ≡ wanted (now (t .entry)) (refreshes (senderOf s) (asked (now (name .entry)) qtype qclass) (sent number 0)) i ⌝ }
 {
@@ -190,7 +207,16 @@ pub fn find_asked(t: &[u8], n: usize, s: Sender, name: &[u8], qtype: u16, qclass
     n
 }
 
-pub fn find_answered(t: &[u8], n: usize, s: Sender, name: &[u8], qtype: u16, qclass: u16, number: u64, lease: u32) -> usize
+pub fn find_answered(
+    t: &[u8],
+    n: usize,
+    s: Sender,
+    name: &[u8],
+    qtype: u16,
+    qclass: u16,
+    number: u64,
+    lease: u32,
+) -> usize
     requires { ⌜ length (now t) ≡ sizeOf n ⌝ }
     ensures { λ r. ⌜ r ≡ findEntry (answers (senderOf s) (asked (now (name .entry)) qtype qclass) (sent number lease)) (readTable (now (t .entry))) ⌝ }
 {
@@ -204,7 +230,15 @@ pub fn find_answered(t: &[u8], n: usize, s: Sender, name: &[u8], qtype: u16, qcl
     n
 }
 
-pub fn find_refreshed(t: &[u8], n: usize, s: Sender, name: &[u8], qtype: u16, qclass: u16, number: u64) -> usize
+pub fn find_refreshed(
+    t: &[u8],
+    n: usize,
+    s: Sender,
+    name: &[u8],
+    qtype: u16,
+    qclass: u16,
+    number: u64,
+) -> usize
     requires { ⌜ length (now t) ≡ sizeOf n ⌝ }
     ensures { λ r. ⌜ r ≡ findEntry (refreshes (senderOf s) (asked (now (name .entry)) qtype qclass) (sent number 0)) (readTable (now (t .entry))) ⌝ }
 {

@@ -1,18 +1,19 @@
 -- Laws of the code of this crate: numbers as chains of bytes, zeros and equal bytes step by step. Assumes nothing.
 use Prim.Native.Nat.{ℕ, zero, suc, _+_, _-_, _*_, _/_, _%_, _≤_, _<_}
-use native.Mathlib.Nat.{add-zero, mul-suc}
+use native.Mathlib.Nat.{add-zero}
 use native.Mathlib.Omega.{arith}
-use native.Mathlib.Numerals.{add-one}
 use mathlib.Core.Path.{_≡_, refl, sym, ap, _∙_}
-use mathlib.Core.Bool.{Bool, true, false, cond, _&&_}
+use mathlib.Core.Bool.{Bool, true, false, _&&_, and-true}
 use mathlib.Core.Logic.{_⊎_, inl, inr, ⊎-elim}
-use lib.Dec.{lit<}
+use lib.Dec.{eqb}
+use lib.Bits.{bitOr, bitAnd, or-add-and, and-le-l, and-le-r}
+use borrow.Author.Tests.{eqb-true, eq-eqb}
 use mathlib.Core.List.{List, [], _∷_, _++_}
 use lib.ListN.{length, getD, set, replicate, length-set, length-replicate, replicate-append-replicate}
 use Rattle.model.specs.Lists.{same}
 use Rattle.model.specs.Numbers.{bigEndian, bytesOf, Bytes, part, splice}
-use Rattle.model.proofs.NumberLaws.{put-step, splice-none, bytes-big, big-ext, getD-part, length-part, part-none, part-all, big-one, splice-next}
-use Rattle.model.proofs.ListLaws.{same-refl, same-true, same-append, part-add, never, test}
+use Rattle.model.proofs.NumberLaws.{put-step, splice-none, bytes-big, big-ext, getD-part, length-part, part-next, splice-next}
+use Rattle.model.proofs.ListLaws.{same-refl, same-true, same-append, part-add, test, iff, and-both, and-left, and-right, eqb-sym}
 
 -- a number of two, four or eight bytes as one chain
 pub chain2 : (s : List ℕ) (at : ℕ) → getD s at 0 * 256 + getD s (at + 1) 0 ≡ bigEndian s at 2
@@ -78,23 +79,6 @@ module _ (s t : List ℕ) (a b : ℕ) where
 abbrev pub noughts : ℕ → List ℕ
 noughts n = replicate n 0
 
-pub getD-zeros : (n i : ℕ) → getD (noughts n) i 0 ≡ 0
-getD-zeros zero i = refl
-getD-zeros (suc n) zero = refl
-getD-zeros (suc n) (suc i) = getD-zeros n i
-
-pub zero-bytes : (n : ℕ) → Bytes (noughts n)
-zero-bytes n i = let e = getD-zeros n i in omega arith
-
-pub big-zeros : (n b k : ℕ) → bigEndian (noughts n) b k ≡ 0
-unfolding bigEndian
-big-zeros n b zero = refl
-big-zeros n b (suc k) = omega (arith, big-zeros n b k, getD-zeros n (b + k))
-
-pub part-zeros : (n : ℕ) → part 0 n (noughts n) ≡ noughts n
-part-zeros n = let e : length (noughts n) ≡ n = length-replicate n 0 in rw e at (part-all (noughts n))
-
--- the zeros of the first i of n
 pub length-zeros : (n : ℕ) → length (noughts n) ≡ n
 length-zeros n = length-replicate n 0
 
@@ -104,25 +88,24 @@ clear-step at i s h =
     splice-next at i 0 (noughts i) s (length-zeros i) h
     ∙ ap (λ (x : List ℕ). splice at (i + 1) x s) (replicate-append-replicate i 1 0)
 
--- zeros that are looked for w bytes at a time, from index at
-module _ (s : List ℕ) (at n : ℕ) where
-  pub zero-step : (i w : ℕ) → Bytes s → part 0 i (noughts n) ≡ part at i s → i + w ≤ n → at + i + w ≤ length s → bigEndian s (at + i) w ≡ 0
-      → part 0 (i + w) (noughts n) ≡ part at (i + w) s
-  zero-step i w b e h l z =
-      let f = length-zeros n in
-      step (noughts n) s 0 at i w (zero-bytes n) b e (omega arith) l (big-zeros n (0 + i) w ∙ sym z)
+-- no bit is seen in both exactly if none is seen in one nor in the other
+pub or-none : (a b : ℕ) → eqb (bitOr a b) 0 ≡ eqb a 0 && eqb b 0
+or-none a b =
+    let s = or-add-and a b in
+    let l = and-le-l a b in
+    let r = and-le-r a b in
+    iff (eqb (bitOr a b) 0) (eqb a 0 && eqb b 0)
+    (λ e. let z : bitOr a b ≡ 0 = eqb-true (bitOr a b) 0 e in and-both (eqb a 0) (eqb b 0) (eq-eqb a 0 (omega arith)) (eq-eqb b 0 (omega arith)))
+    (λ e.
+    let x : a ≡ 0 = eqb-true a 0 (and-left (eqb a 0) (eqb b 0) e) in
+    let y : b ≡ 0 = eqb-true b 0 (and-right (eqb a 0) (eqb b 0) e) in
+    eq-eqb (bitOr a b) 0 (omega arith))
 
-  pub zero-stop : (i w : ℕ) → i + w ≤ n → (bigEndian s (at + i) w ≡ 0 → ⊥) → same (noughts n) (part at n s) ≡ false
-  zero-stop i w h z =
-      rw (part-zeros n) at (stop (noughts n) s 0 at n i w h (λ e. z (sym e ∙ big-zeros n (0 + i) w)))
-
-  pub zero-done : part 0 n (noughts n) ≡ part at n s → same (noughts n) (part at n s) ≡ true
-  zero-done e = rw (part-zeros n) at (done (noughts n) s 0 at n e)
-
-  -- n zeros are j and then k
-  pub zero-both : (j k : ℕ) → j + k ≡ n → at + j ≤ length s
-      → same (noughts j) (part at j s) && same (noughts k) (part (at + j) k s) ≡ same (noughts n) (part at n s)
-  zero-both j k e h =
-      let f : length (noughts j) ≡ length (part at j s) = length-zeros j ∙ sym (length-part at j s h) in
-      sym (same-append (noughts j) (noughts k) (part at j s) (part (at + j) k s) f)
-      ∙ rw (replicate-append-replicate {A = ℕ} j k 0, ← part-add at j k s, e)
+-- one byte more of which zeros are asked
+pub zeros-next : (s : List ℕ) (at i seen : ℕ) → at + i < length s → eqb seen 0 ≡ same (noughts i) (part at i s)
+    → eqb (bitOr seen (getD s (at + i) 0)) 0 ≡ same (noughts (i + 1)) (part at (i + 1) s)
+unfolding same
+zeros-next s at i seen h e =
+    let l : length (noughts i) ≡ length (part at i s) = length-zeros i ∙ sym (length-part at i s (omega arith)) in
+    or-none seen (getD s (at + i) 0)
+    ∙ rw (e, ← replicate-append-replicate {A = ℕ} i 1 0, part-next at i s h, same-append (noughts i) (0 ∷ []) (part at i s) (getD s (at + i) 0 ∷ []) l, eqb-sym 0 (getD s (at + i) 0), and-true)

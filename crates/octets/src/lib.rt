@@ -78,47 +78,18 @@ pub fn put64(s: &mut [u8], at: usize, x: u64)
     s[at] = (g / 256 % 256) as u8;
 }
 
-// The k times eight bytes from index at are zeros.
-fn zero_words(s: &[u8], at: usize, k: usize) -> bool
-    requires { ⌜ at + 8 * k ≤ length (now s) ⌝ }
-    ensures { λ r. ⌜ r ≡ same (replicate (8 * k) 0) (part at (8 * k) (now (s .entry))) ⌝ }
-{
-    let mut i: usize = 0;
-    while i < k {
-        if get64(s, at + 8 * i) != 0 {
-            return false;
-        }
-        i += 1;
-    }
-    true
-}
-
-// The n bytes from index at are zeros.
-fn zero_bytes(s: &[u8], at: usize, n: usize) -> bool
-    requires { ⌜ at + n ≤ length (now s) ⌝ }
-    ensures { λ r. ⌜ r ≡ same (replicate n 0) (part at n (now (s .entry))) ⌝ }
-{
-    let mut i: usize = 0;
-    while i < n {
-        if s[at + i] != 0 {
-            return false;
-        }
-        i += 1;
-    }
-    true
-}
-
-// Zeros, eight at a time and then the rest.
+// The n bytes from index at are zeros. No byte ends the loop, which compiles to whole vectors.
 pub fn zeros(s: &[u8], at: usize, n: usize) -> bool
     requires { ⌜ at + n ≤ length (now s) ⌝ }
     ensures { λ r. ⌜ r ≡ same (replicate n 0) (part at n (now (s .entry))) ⌝ }
 {
-    let k = n / 8;
-    if zero_words(s, at, k) {
-        zero_bytes(s, at + 8 * k, n % 8)
-    } else {
-        false
+    let mut seen: u8 = 0;
+    let mut i: usize = 0;
+    while i < n {
+        seen = seen | s[at + i];
+        i += 1;
     }
+    seen == 0
 }
 
 // The k times eight bytes of s from index a are those of t from index b.

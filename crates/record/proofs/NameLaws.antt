@@ -1,70 +1,143 @@
--- A stored name, read a byte a turn. Assumes nothing.
-use Prim.Native.Nat.{ℕ, zero, suc, _+_, _-_, _≤_, _<_}
+-- A stored name: its labels, a label a turn, and its case, a byte a turn or a block. Assumes nothing.
+use Prim.Native.Nat.{ℕ, zero, suc, _+_, _-_, _*_, _≤_, _<_}
+use native.Mathlib.Nat.{add-zero, sub-zero}
 use native.Mathlib.Omega.{arith}
 use mathlib.Core.Path.{_≡_, refl, sym, ap, _∙_}
-use mathlib.Core.Bool.{Bool, true, false}
-use mathlib.Core.List.{List}
+use mathlib.Core.Bool.{Bool, true, false, not, cond, _&&_}
+use mathlib.Core.List.{List, [], _∷_, _++_}
 use mathlib.Core.Logic.{_≢_}
 use lib.ListN.{length, getD}
-use lib.Dec.{eqb}
-use borrow.Author.Tests.{eqb-true, eq-eqb, ne-eqb, lt-ltb, le-ltb}
+use lib.Bits.{bitOr}
+use lib.Dec.{eqb, ltb}
+use borrow.Author.Tests.{eqb-true, eq-eqb, ne-eqb, ltb-true, lt-ltb, le-ltb}
+use Rattle.model.specs.Lists.{bit, every}
 use Rattle.model.specs.Numbers.{part}
 use Rattle.model.specs.Names.{upper, lowerName}
-use Rattle.model.proofs.NumberLaws.{part-none, length-part}
-use Rattle.model.proofs.ListLaws.{iff}
+use Rattle.model.proofs.NumberLaws.{part-none, part-next, length-part}
+use Rattle.model.proofs.ListLaws.{iff, and-left, and-right, and-both, every-append, every-snoc, part-add}
+use Rattle.model.proofs.NameLaws.{below-upper}
 use Rattle.layout.proofs.ShapeLaws.{part-head}
+use Rattle.record.specs.Labels.{labelled, lowerCase}
+use Rattle.record.proofs.BitLaws.{or-zero}
 
--- the name: one byte more
-module _ (s : List ℕ) (at k : ℕ) (h : at + suc k ≤ length s) where
-  pub lower-end : getD s at 0 ≡ 0 → lowerName 0 (part at (suc k) s) ≡ eqb k 0
-  unfolding lowerName
-  lower-end e = rw (part-head at k s h, e, length-part (at + 1) k s (omega arith))
+-- THE TWO TESTS are the name's
 
-  pub lower-label : getD s at 0 ≢ 0 → getD s at 0 < 64 → lowerName 0 (part at (suc k) s) ≡ lowerName (getD s at 0) (part (at + 1) k s)
-  unfolding lowerName
-  lower-label n l = rw (part-head at k s h, ne-eqb (getD s at 0) 0 n, lt-ltb (getD s at 0) 64 l)
+none-left : (s : List ℕ) → eqb (length s) 0 ≡ eqb (length s) 0 && lowerCase s
+unfolding every
+none-left [] = refl
+none-left (b ∷ s) = let e : eqb (length (b ∷ s)) 0 ≡ false = ne-eqb (length (b ∷ s)) 0 (λ z. omega arith) in rw e
 
-  pub lower-long : getD s at 0 ≢ 0 → 64 ≤ getD s at 0 → lowerName 0 (part at (suc k) s) ≡ false
-  unfolding lowerName
-  lower-long n l = rw (part-head at k s h, ne-eqb (getD s at 0) 0 n, le-ltb (getD s at 0) 64 l)
+turned : (a b c : Bool) → a && (b && c) ≡ b && (a && c)
+turned true b c = refl
+turned false true c = refl
+turned false false c = refl
 
-  pub lower-next : (j : ℕ) → upper (getD s at 0) ≡ false → lowerName (suc j) (part at (suc k) s) ≡ lowerName j (part (at + 1) k s)
-  unfolding lowerName
-  lower-next j e = rw (part-head at k s h, e)
+pub name-is : (k : ℕ) (s : List ℕ) → lowerName k s ≡ labelled k s && lowerCase s
+unfolding lowerName labelled every
+name-is k [] = refl
+name-is zero (b ∷ s) = go (eqb b 0) (ltb b 64) refl refl (name-is b s)
+  where
+    go : (u v : Bool) → eqb b 0 ≡ u → ltb b 64 ≡ v → lowerName b s ≡ labelled b s && lowerCase s
+        → cond u (eqb (length s) 0) (v && lowerName b s) ≡ cond u (eqb (length s) 0) (v && labelled b s) && (not (upper b) && lowerCase s)
+    go true v e f r = let z : b ≡ 0 = eqb-true b 0 e in rw z (none-left s)
+    go false true e f r = let l : b < 65 = omega (arith, ltb-true b 64 f) in rw (below-upper b l) r
+    go false false e f r = refl
+name-is (suc k) (b ∷ s) = rw (name-is k s) (turned (not (upper b)) (labelled k s) (lowerCase s))
 
-  pub lower-upper : (j : ℕ) → upper (getD s at 0) ≡ true → lowerName (suc j) (part at (suc k) s) ≡ false
-  unfolding lowerName
-  lower-upper j e = rw (part-head at k s h, e)
+-- LABELS
 
-pub lower-none : (s : List ℕ) (at k : ℕ) → lowerName k (part at 0 s) ≡ false
-unfolding lowerName
-lower-none s at k = rw (part-none at s)
+labelled-none : (s : List ℕ) (at k : ℕ) → labelled k (part at 0 s) ≡ false
+unfolding labelled
+labelled-none s at k = rw (part-none at s)
 
--- a turn of the name's loop
-module _ (s : List ℕ) (at len i k : ℕ) (inv : lowerName 0 (part at len s) ≡ lowerName k (part (at + i) (len - i) s)) (l : i < len) (h : at + len ≤ length s) where
-  cut : len - i ≡ suc (len - (i + 1))
-  cut = omega arith
+-- the bytes of a label passed at once
+passed : (s : List ℕ) (k at n : ℕ) → at + n ≤ length s → labelled k (part at n s) ≡ labelled 0 (part (at + k) (n - k) s)
+unfolding labelled
+passed s zero at n h = rw (add-zero, sub-zero)
+passed s (suc k) at zero h = labelled-none s at (suc k) ∙ sym (ap (λ (z : ℕ). labelled 0 (part (at + suc k) z s)) none ∙ labelled-none s (at + suc k) 0)
+  where
+    none : 0 - suc k ≡ 0
+    none = omega arith
+passed s (suc k) at (suc n) h =
+    let e : at + 1 + k ≡ at + suc k = omega arith in
+    let f : suc n - suc k ≡ n - k = omega arith in
+    rw (part-head at n s h, f) (passed s k (at + 1) n (omega arith) ∙ ap (λ (x : ℕ). labelled 0 (part x (n - k) s)) e)
 
-  on : at + i + 1 ≡ at + (i + 1)
-  on = omega arith
+-- a turn, at byte i of len
+module _ (s : List ℕ) (at len i : ℕ) (inv : labelled 0 (part at len s) ≡ labelled 0 (part (at + i) (len - i) s)) where
+  pub labels-short : len ≤ i → labelled 0 (part at len s) ≡ false
+  labels-short h = let e : len - i ≡ 0 = omega arith in inv ∙ (rw e (labelled-none s (at + i) 0))
 
-  fits : at + i + suc (len - (i + 1)) ≤ length s
-  fits = omega arith
+  module _ (l : i < len) (h : at + len ≤ length s) where
+    cut : len - i ≡ suc (len - (i + 1))
+    cut = omega arith
 
-  pub name-end : k ≡ 0 → getD s (at + i) 0 ≡ 0 → lowerName 0 (part at len s) ≡ eqb (i + 1) len
-  name-end z e =
-      inv ∙ rw (z, cut) (lower-end s (at + i) (len - (i + 1)) fits e ∙ iff (eqb (len - (i + 1)) 0) (eqb (i + 1) len) (λ t. eq-eqb (i + 1) len (let q = eqb-true (len - (i + 1)) 0 t in omega arith)) (λ t. eq-eqb (len - (i + 1)) 0 (let q = eqb-true (i + 1) len t in omega arith)))
+    fits : at + i + suc (len - (i + 1)) ≤ length s
+    fits = omega arith
 
-  pub name-long : k ≡ 0 → getD s (at + i) 0 ≢ 0 → 64 ≤ getD s (at + i) 0 → lowerName 0 (part at len s) ≡ false
-  name-long z n m = inv ∙ rw (z, cut) (lower-long s (at + i) (len - (i + 1)) fits n m)
+    pub labels-end : getD s (at + i) 0 ≡ 0 → labelled 0 (part at len s) ≡ eqb (i + 1) len
+    unfolding labelled
+    labels-end e =
+        inv
+        ∙ (rw (cut, part-head (at + i) (len - (i + 1)) s fits, e, length-part (at + i + 1) (len - (i + 1)) s (omega arith))
+        (iff (eqb (len - (i + 1)) 0) (eqb (i + 1) len)
+        (λ t. eq-eqb (i + 1) len (let q = eqb-true (len - (i + 1)) 0 t in omega arith))
+        (λ t. eq-eqb (len - (i + 1)) 0 (let q = eqb-true (i + 1) len t in omega arith))))
 
-  pub name-label : k ≡ 0 → getD s (at + i) 0 ≢ 0 → getD s (at + i) 0 < 64 → lowerName 0 (part at len s) ≡ lowerName (getD s (at + i) 0) (part (at + (i + 1)) (len - (i + 1)) s)
-  name-label z n m = inv ∙ rw (z, cut) (lower-label s (at + i) (len - (i + 1)) fits n m ∙ ap (λ (x : ℕ). lowerName (getD s (at + i) 0) (part x (len - (i + 1)) s)) on)
+    pub labels-long : 64 ≤ getD s (at + i) 0 → labelled 0 (part at len s) ≡ false
+    unfolding labelled
+    labels-long m =
+        let n : getD s (at + i) 0 ≢ 0 = λ z. omega arith in
+        inv ∙ (rw (cut, part-head (at + i) (len - (i + 1)) s fits, ne-eqb (getD s (at + i) 0) 0 n, le-ltb (getD s (at + i) 0) 64 m))
 
-  pub name-upper : k ≢ 0 → upper (getD s (at + i) 0) ≡ true → lowerName 0 (part at len s) ≡ false
-  name-upper n e = let j : k ≡ suc (k - 1) = omega arith in inv ∙ rw (j, cut) (lower-upper s (at + i) (len - (i + 1)) fits (k - 1) e)
+    pub labels-next : (b : ℕ) → b ≡ getD s (at + i) 0 → b ≢ 0 → b < 64
+        → labelled 0 (part at len s) ≡ labelled 0 (part (at + (i + (b + 1))) (len - (i + (b + 1))) s)
+    unfolding labelled
+    labels-next b q n m =
+        let e : at + i + 1 + b ≡ at + (i + (b + 1)) = omega arith in
+        let f : len - (i + 1) - b ≡ len - (i + (b + 1)) = omega arith in
+        inv
+        ∙ (rw (cut, part-head (at + i) (len - (i + 1)) s fits, ← q, ne-eqb b 0 n, lt-ltb b 64 m)
+        (passed s b (at + i + 1) (len - (i + 1)) (omega arith) ∙ ap (λ (x : ℕ). labelled 0 (part x (len - (i + 1) - b) s)) e
+        ∙ ap (λ (x : ℕ). labelled 0 (part (at + (i + (b + 1))) x s)) f))
 
-  pub name-next : k ≢ 0 → upper (getD s (at + i) 0) ≡ false → lowerName 0 (part at len s) ≡ lowerName (k - 1) (part (at + (i + 1)) (len - (i + 1)) s)
-  name-next n e =
-      let j : k ≡ suc (k - 1) = omega arith in
-      inv ∙ ap (λ (x : ℕ). lowerName x (part (at + i) (len - i) s)) j ∙ (rw cut (lower-next s (at + i) (len - (i + 1)) fits (k - 1) e ∙ ap (λ (x : ℕ). lowerName (k - 1) (part x (len - (i + 1)) s)) on))
+-- CASE
+
+module _ (s : List ℕ) (at : ℕ) where
+  pub case-none : eqb 0 0 ≡ lowerCase (part at 0 s)
+  unfolding every
+  case-none = rw (part-none at s)
+
+  -- one byte more
+  pub case-next : (i x : ℕ) → at + i < length s → eqb x 0 ≡ lowerCase (part at i s)
+      → eqb (bitOr x (bit (upper (getD s (at + i) 0)))) 0 ≡ lowerCase (part at (i + 1) s)
+  case-next i x h e =
+      or-zero x (bit (upper (getD s (at + i) 0)))
+      ∙ (rw (e, part-next at i s h, every-snoc (λ b. not (upper b)) (part at i s) (getD s (at + i) 0)) (ap (λ (v : Bool). lowerCase (part at i s) && v) (go (upper (getD s (at + i) 0)))))
+    where
+      go : (v : Bool) → eqb (bit v) 0 ≡ not v
+      go true = refl
+      go false = refl
+
+  -- n bytes are j and then k
+  case-both : (n j k : ℕ) → j + k ≡ n → lowerCase (part at j s) && lowerCase (part (at + j) k s) ≡ lowerCase (part at n s)
+  case-both n j k e =
+      sym (ap (λ (x : ℕ). lowerCase (part at x s)) (sym e) ∙ ap lowerCase (part-add at j k s) ∙ every-append (λ b. not (upper b)) (part at j s) (part (at + j) k s))
+
+-- the first m and the last k are all n
+pub case-cover : (s : List ℕ) (at n m k : ℕ) → m ≤ n → k ≤ n → n ≤ m + k
+    → lowerCase (part at m s) && lowerCase (part (at + (n - k)) k s) ≡ lowerCase (part at n s)
+case-cover s at n m k hm hk hc =
+    let whole = lowerCase (part at n s) in
+    let first = lowerCase (part at m s) in
+    let last = lowerCase (part (at + (n - k)) k s) in
+    let rest = lowerCase (part (at + m) (n - m) s) in
+    let front = lowerCase (part at (n - k) s) in
+    let over = lowerCase (part (at + (n - k)) (k - (n - m)) s) in
+    let a : first && rest ≡ whole = case-both s at n m (n - m) (omega arith) in
+    let b : front && last ≡ whole = case-both s at n (n - k) k (omega arith) in
+    let p : at + (n - k) + (k - (n - m)) ≡ at + m = omega arith in
+    let c : over && rest ≡ last = rw p at (case-both s (at + (n - k)) k (k - (n - m)) (n - m) (omega arith)) in
+    iff (first && last) whole
+    (λ e. sym a ∙ and-both first rest (and-left first last e) (and-right over rest (c ∙ and-right first last e)))
+    (λ e. and-both first last (and-left first rest (a ∙ e)) (and-right front last (b ∙ e)))

@@ -1,17 +1,19 @@
 // One record's bytes in a table: a slot or a roster line, its kind and zeros, and the rules that it meets by itself.
 ghost use mathlib.Core.Path.{_≡_};
 ghost use mathlib.Core.Bool.{_&&_};
-ghost use Prim.Native.Nat.{_+_, _*_, _^_, _≤_};
+ghost use Prim.Native.Nat.{_+_, _*_, _^_, _≤_, _<_};
 ghost use lib.ListN.{length, getD};
 ghost use lib.Dec.{eqb};
 ghost use Rattle.model.specs.Numbers.{bigEndian, part};
-ghost use Rattle.model.specs.Names.{upper as isUpper, lowerName};
+ghost use Rattle.model.specs.Lists.{bit};
+ghost use Rattle.model.specs.Names.{upper, lowerName};
 ghost use Rattle.model.specs.Table.{readLine};
 ghost use Rattle.model.specs.Rules.{numbered, heldBy};
 ghost use Rattle.model.specs.Sound.{validLine, validEntry};
 ghost use Rattle.layout.specs.Shape.{inUse, slotShape, unusedShape};
 ghost use Rattle.layout.specs.Held.{holdingAt};
 ghost use Rattle.record.specs.Asked.{sameAsked};
+ghost use Rattle.record.specs.Labels.{labelled, lowerCase};
 
 // The kind is an entry's, pending or established.
 pub fn in_use(kind: u8) -> bool
@@ -23,11 +25,20 @@ pub fn in_use(kind: u8) -> bool
     kind == 6
 }
 
-// The 16 bytes at a are the address of these halves. The low one first: mapped addresses differ there.
+fn wide(b: u8) -> u64
+    ensures { λ r. ⌜ r ≡ b ⌝ }
+{
+    b as u64
+}
+
+// The 16 bytes at a are the address of these halves. The last byte first, then the low half: most addresses differ there.
 pub fn has_address(t: &[u8], a: usize, hi: u64, lo: u64) -> bool
     requires { ⌜ a + 16 ≤ length (now t) ⌝ }
     ensures { λ r. ⌜ r ≡ eqb (bigEndian (now (t .entry)) a 16) (hi * 2 ^ 64 + lo) ⌝ }
 {
+    if wide(t[a + 15]) != lo % 256 {
+        return false;
+    }
     if octets::get64(t, a + 8) == lo {
         return octets::get64(t, a) == hi;
     }
@@ -77,40 +88,79 @@ pub fn valid_line(t: &[u8], a: usize) -> bool
     limit <= 64
 }
 
-fn upper(b: u8) -> bool
-    ensures { λ r. ⌜ r ≡ isUpper b ⌝ }
+// 1 for a letter A to Z.
+fn capital(b: u8) -> u8
+    ensures { λ r. ⌜ r ≡ bit (upper b) ⌝ }
 {
-    if b >= 65 {
-        return b <= 90;
+    if b < 65 {
+        return 0;
+    }
+    if b > 90 {
+        return 0;
+    }
+    1
+}
+
+// None of the n bytes from index at is a letter A to Z. The loop has one way out, so that it compiles to vectors.
+fn lower_bytes(t: &[u8], at: usize, n: usize) -> bool
+    requires { ⌜ at + n ≤ length (now t) ⌝ }
+    ensures { λ r. ⌜ r ≡ lowerCase (part at n (now (t .entry))) ⌝ }
+{
+    let mut x: u8 = 0;
+    let mut i: usize = 0;
+    while i < n {
+        x = x | capital(t[at + i]);
+        i += 1;
+    }
+    x == 0
+}
+
+// The same in blocks of 32 and then the last 32.
+fn lower_case(t: &[u8], at: usize, n: usize) -> bool
+    requires { ⌜ at + n ≤ length (now t) ⌝ }
+    ensures { λ r. ⌜ r ≡ lowerCase (part at n (now (t .entry))) ⌝ }
+{
+    if n < 32 {
+        return lower_bytes(t, at, n);
+    }
+    if lower_bytes(t, at, 32 * (n / 32)) {
+        return lower_bytes(t, at + (n - 32), 32);
     }
     false
 }
 
-// A stored name: a wire name in lower case that fills its length. k bytes of a label are still to come.
-pub fn lower_name(t: &[u8], at: usize, len: usize) -> bool
-    requires { ⌜ at + len ≤ length (now t) ⌝ }
-    ensures { λ r. ⌜ r ≡ lowerName 0 (part at len (now (t .entry))) ⌝ }
+fn size_of(b: u8) -> usize
+    ensures { λ r. ⌜ (r ≡ b) × (r < 256) ⌝ }
 {
-    let mut k: u8 = 0;
+    b as usize
+}
+
+// Labels, each a length byte of 1 to 63 and as many bytes, and then a zero byte, which is the last of len: a label a turn.
+fn labels(t: &[u8], at: usize, len: usize) -> bool
+    requires { ⌜ (at + len ≤ length (now t)) × (len ≤ 255) ⌝ }
+    ensures { λ r. ⌜ r ≡ labelled 0 (part at len (now (t .entry))) ⌝ }
+{
     let mut i: usize = 0;
     while i < len {
-        let b = t[at + i];
-        if k == 0 {
-            if b == 0 {
-                return i + 1 == len;
-            }
-            if b >= 64 {
-                return false;
-            }
-            k = b;
-            i += 1;
-        } else {
-            if upper(b) {
-                return false;
-            }
-            k -= 1;
-            i += 1;
+        let b = size_of(t[at + i]);
+        if b == 0 {
+            return i + 1 == len;
         }
+        if b >= 64 {
+            return false;
+        }
+        i += b + 1;
+    }
+    false
+}
+
+// A stored name: a wire name in lower case that fills its length. A length byte is no letter, so case is looked at apart from labels.
+pub fn lower_name(t: &[u8], at: usize, len: usize) -> bool
+    requires { ⌜ (at + len ≤ length (now t)) × (len ≤ 255) ⌝ }
+    ensures { λ r. ⌜ r ≡ lowerName 0 (part at len (now (t .entry))) ⌝ }
+{
+    if labels(t, at, len) {
+        return lower_case(t, at, len);
     }
     false
 }
@@ -137,11 +187,14 @@ pub fn valid_entry(t: &[u8], a: usize, running: u32) -> bool
     lower_name(t, a + 40, len)
 }
 
-// The slot at a has an entry of the number. A free slot has none, so its kind is looked at last.
+// The slot at a has an entry of the number. The last byte first; the kind, which most slots share, last.
 pub fn has_number(t: &[u8], a: usize, number: u64) -> bool
     requires { ⌜ a + 320 ≤ length (now t) ⌝ }
     ensures { λ r. ⌜ r ≡ (inUse (getD (now (t .entry)) a 0) && numbered number (holdingAt (now (t .entry)) a)) ⌝ }
 {
+    if wide(t[a + 26]) != number % 256 {
+        return false;
+    }
     if octets::get64(t, a + 19) == number {
         return in_use(t[a]);
     }

@@ -5,7 +5,7 @@ ghost use Prim.Native.Nat.{_+_, _*_, _^_, _≤_, _<_};
 ghost use lib.ListN.{length, getD};
 ghost use lib.Dec.{eqb};
 ghost use Rattle.model.specs.Lists.{every, noTwo};
-ghost use Rattle.model.specs.Table.{readLine, listed};
+ghost use Rattle.model.specs.Table.{readLine, lineAt, listed};
 ghost use Rattle.model.specs.Rules.{limitOf, shareOf, shares};
 ghost use Rattle.model.specs.Sound.{validLine, sameAddress, soundRoster};
 ghost use Rattle.layout.specs.Shape.{all, unusedFrom, linesFrom, linesTo};
@@ -13,7 +13,7 @@ ghost use Rattle.layout.specs.Shape.{all, unusedFrom, linesFrom, linesTo};
 // How many of a table's lines are listed: those of kind 0x03 that stand first.
 pub fn listed_lines(t: &[u8]) -> usize
     requires { ⌜ 313 ≤ length (now t) ⌝ }
-    ensures { λ r. ⌜ (r ≤ 16) × (r ≡ listed (now (t .entry)) 16) ⌝ }
+    ensures { λ r. ⌜ (r ≡ listed (now (t .entry)) 16) × (r ≤ 16) ⌝ }
 {
     let mut i: usize = 0;
     while i < 16 {
@@ -141,8 +141,8 @@ pub fn lines_sound(t: &[u8], base: usize, m: usize, n: usize) -> bool
 
 // The address's limit by a table's first m lines.
 pub fn limit_of(t: &[u8], m: usize, hi: u64, lo: u64) -> usize
-    requires { ⌜ (m ≤ 16) × (313 ≤ length (now t)) ⌝ }
-    ensures { λ r. ⌜ (r < 256) × (r ≡ limitOf (linesTo (now (t .entry)) m) (hi * 2 ^ 64 + lo)) ⌝ }
+    requires { ⌜ lineAt m ≤ length (now t) ⌝ }
+    ensures { λ r. ⌜ r ≡ limitOf (linesTo (now (t .entry)) m) (hi * 2 ^ 64 + lo) ⌝ }
 {
     let mut i: usize = 0;
     while i < m {
@@ -157,8 +157,8 @@ pub fn limit_of(t: &[u8], m: usize, hi: u64, lo: u64) -> usize
 
 // The address's share by a table's first m lines.
 pub fn share_of(t: &[u8], m: usize, hi: u64, lo: u64) -> usize
-    requires { ⌜ (m ≤ 16) × (313 ≤ length (now t)) ⌝ }
-    ensures { λ r. ⌜ (r < 256) × (r ≡ shareOf (linesTo (now (t .entry)) m) (hi * 2 ^ 64 + lo)) ⌝ }
+    requires { ⌜ lineAt m ≤ length (now t) ⌝ }
+    ensures { λ r. ⌜ r ≡ shareOf (linesTo (now (t .entry)) m) (hi * 2 ^ 64 + lo) ⌝ }
 {
     let mut i: usize = 0;
     while i < m {

@@ -2,3 +2,4 @@ pub mod Choice
 pub mod Pad
 pub mod Names
 pub mod Reading
+pub mod Writing

@@ -85,13 +85,13 @@ module _ (s : List ℕ) (start at : ℕ) (h : start ≤ at) where
       cond-when (After s start at) (eqb (getD s at 0) 0) _ _
       (λ e. (refl, rw e at q))
       (λ e.
-        let r = rw e at q in
-        cond-when (After s start at) (ltb (getD s at 0) 64) _ _
-        (λ f.
-          let b : getD s at 0 < 64 = ltb-true (getD s at 0) 64 f in
-          let n : at - start + 1 + getD s at 0 ≡ at + 1 + getD s at 0 - start = omega arith in
-          (omega arith, omega arith, rw (f, n) at r))
-        (λ f. rw f at r))
+      let r = rw e at q in
+      cond-when (After s start at) (ltb (getD s at 0) 64) _ _
+      (λ f.
+      let b : getD s at 0 < 64 = ltb-true (getD s at 0) 64 f in
+      let n : at - start + 1 + getD s at 0 ≡ at + 1 + getD s at 0 - start = omega arith in
+      (omega arith, omega arith, rw (f, n) at r))
+      (λ f. rw f at r))
 
   label-is : After s start at (readLabel s at)
   label-is =

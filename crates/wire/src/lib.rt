@@ -10,6 +10,7 @@ pub mod write;
 
 // A message number and an LLQ number are different kinds: neither can stand for the other.
 pub struct MessageNumber(pub u16);
+
 pub struct LlqNumber(pub u64);
 
 // A question: its name's wire bytes, folded and padded with zeros, how many bytes the name takes, its type and class.

@@ -46,7 +46,14 @@ pub fn put_opt(reply: &mut [u8], at: usize, k: u16)
 }
 
 // An option at index at.
-pub fn put_option(reply: &mut [u8], at: usize, opcode: u16, error: u16, number: LlqNumber, lease: u32)
+pub fn put_option(
+    reply: &mut [u8],
+    at: usize,
+    opcode: u16,
+    error: u16,
+    number: LlqNumber,
+    lease: u32,
+)
     requires { ⌜ at + 22 ≤ length (now reply) ⌝ }
     ensures { λ _. ⌜ now (reply .exit) ≡ splice at 22 (optionBytes (outcomeSent opcode error (number .0) lease)) (now (reply .entry)) ⌝ }
 {

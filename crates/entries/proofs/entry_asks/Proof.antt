@@ -60,9 +60,15 @@ get16-requires-3 c κs = search needs
 returns-4 : tie.Need-returns-4
 unfolding holdingAt readEntry
 returns-4 c =
-    rw
-    (sym (c .before .before .before .before .before .before .before .before .has-address .ensures) ∙ not-false _ (c .before .before .before .before .before .before .before .if1 .left), ← c .before .before .before .before .before .before .get16 .ensures, eq-eqb _ _ (c .before .before .before .before .if2 .left), ← c .before .before .before .get162 .ensures, eq-eqb _ _ (c .before .before .if3 .left), ← c .before .get163 .ensures,
-      ne-eqb _ _ (c .if4 .taken))
+    rw (
+      sym (c .before .before .before .before .before .before .before .before .has-address .ensures) ∙ not-false _ (c .before .before .before .before .before .before .before .if1 .left),
+      ← c .before .before .before .before .before .before .get16 .ensures,
+      eq-eqb _ _ (c .before .before .before .before .if2 .left),
+      ← c .before .before .before .get162 .ensures,
+      eq-eqb _ _ (c .before .before .if3 .left),
+      ← c .before .get163 .ensures,
+      ne-eqb _ _ (c .if4 .taken),
+    )
 
 add-len : tie.Need-add-len
 add-len c = search needs
@@ -79,9 +85,15 @@ unfolding holdingAt readEntry
 returns-5 c =
     let a = c .before .before .before .before .before .before .before .before .before .before .before .before .before .args in
     let l = length-part (a .a + 40) (getD (a .t .now) (a .a + 39) 0) (a .t .now) (omega (arith, c .before .before .before .before .before .before .before .before .before .before .before .before .shared-slice-known .given (a .a + 39))) in
-    rw
-    (sym (c .before .before .before .before .before .before .before .before .before .before .has-address .ensures) ∙ not-false _ (c .before .before .before .before .before .before .before .before .before .if1 .left), ← c .before .before .before .before .before .before .before .before .get16 .ensures, eq-eqb _ _ (c .before .before .before .before .before .before .if2 .left), ← c .before .before .before .before .before .get162 .ensures, eq-eqb _ _ (c .before .before .before .before .if3 .left), ← c .before .before .before .get163 .ensures,
-      eq-eqb _ _ (c .before .before .if4 .left))
+    rw (
+      sym (c .before .before .before .before .before .before .before .before .before .before .has-address .ensures) ∙ not-false _ (c .before .before .before .before .before .before .before .before .before .if1 .left),
+      ← c .before .before .before .before .before .before .before .before .get16 .ensures,
+      eq-eqb _ _ (c .before .before .before .before .before .before .if2 .left),
+      ← c .before .before .before .before .before .get162 .ensures,
+      eq-eqb _ _ (c .before .before .before .before .if3 .left),
+      ← c .before .before .before .get163 .ensures,
+      eq-eqb _ _ (c .before .before .if4 .left),
+    )
     (sym (same-length _ _ (λ z. c .if5 .taken (sym l ∙ z))))
 
 add-equal : tie.Need-add-equal
@@ -97,9 +109,15 @@ returns-6 c =
     let a = c .before .before .before .before .before .before .before .before .before .before .before .before .before .before .args in
     let n = c .before .if5 .left in
     let w : part 0 (getD (a .t .now) (a .a + 39) 0) (a .name .now) ≡ a .name .now = ap (λ (k : ℕ). part 0 k (a .name .now)) n ∙ part-all (a .name .now) in
-    rw
-    (sym (c .before .before .before .before .before .before .before .before .before .before .before .has-address .ensures) ∙ not-false _ (c .before .before .before .before .before .before .before .before .before .before .if1 .left), ← c .before .before .before .before .before .before .before .before .before .get16 .ensures, eq-eqb _ _ (c .before .before .before .before .before .before .before .if2 .left), ← c .before .before .before .before .before .before .get162 .ensures, eq-eqb _ _ (c .before .before .before .before .before .if3 .left), ← c .before .before .before .before .get163 .ensures,
-      eq-eqb _ _ (c .before .before .before .if4 .left))
+    rw (
+      sym (c .before .before .before .before .before .before .before .before .before .before .before .has-address .ensures) ∙ not-false _ (c .before .before .before .before .before .before .before .before .before .before .if1 .left),
+      ← c .before .before .before .before .before .before .before .before .before .get16 .ensures,
+      eq-eqb _ _ (c .before .before .before .before .before .before .before .if2 .left),
+      ← c .before .before .before .before .before .before .get162 .ensures,
+      eq-eqb _ _ (c .before .before .before .before .before .if3 .left),
+      ← c .before .before .before .before .get163 .ensures,
+      eq-eqb _ _ (c .before .before .before .if4 .left),
+    )
     (c .equal .ensures ∙ ap (same (part (a .a + 40) (getD (a .t .now) (a .a + 39) 0) (a .t .now))) w)
 
 pub entry-asks-spec : {M : Type 1} → statement M

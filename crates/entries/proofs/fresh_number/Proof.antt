@@ -46,9 +46,11 @@ loop-less : tie.Need-loop-less Inv-loop μ-loop
 loop-less c = search needs
 
 loop-again : tie.Need-loop-again Inv-loop μ-loop
-loop-again c =
-    (omega arith, omega arith,
-    c .before .before .before .before .loop .inv .2 ∙ law.fresh-next (c .before .before .before .before .loop .k) _ (c .before .before .before .before .loop .x) _ (omega arith) (omega arith) (omega arith) (sym (c .before .before .not-granted .ensures) ∙ not-false _ (c .before .if1 .left)))
+loop-again c = (
+  omega arith,
+  omega arith,
+  c .before .before .before .before .loop .inv .2 ∙ law.fresh-next (c .before .before .before .before .loop .k) _ (c .before .before .before .before .loop .x) _ (omega arith) (omega arith) (omega arith) (sym (c .before .before .not-granted .ensures) ∙ not-false _ (c .before .if1 .left)),
+)
 
 returns-2 : tie.Need-returns-2 Inv-loop μ-loop
 returns-2 c =

@@ -1,14 +1,12 @@
+-- The proof of `copy`. Assumes nothing.
 use Rattle.octets.proofs.copy.Statement.{statement}
 use Rattle.octets.proofs.copy.Tie as tie
-use Rattle.octets.proofs.copy.Reads as reads
-use Rattle.octets.proofs.copy.Lts as lts
-use Prim.Native.Nat.{ℕ, _+_, _-_, _*_, _≤_, _<_}
+use Prim.Native.Nat.{_-_, _≤_}
 use native.Mathlib.Omega.{arith}
-use mathlib.Core.Path.{_≡_, refl, sym, ap, _∙_}
-use lib.ListN.{length, replicate, length-set}
-use denote.Ref.{now}
-use Rattle.model.specs.Numbers.{bigEndian, bytesOf, part, splice}
-use Rattle.model.proofs.NumberLaws.{copy-step, splice-none, part-none}
+use mathlib.Core.Path.{_≡_, refl, sym}
+use lib.ListN.{length, length-set}
+use Rattle.model.specs.Numbers.{part, splice}
+use Rattle.model.proofs.NumberLaws.{copy-step, splice-none}
 use borrow.Author.Needs.{needs}
 
 abbrev Inv-loop : tie.InvT-loop
@@ -17,46 +15,36 @@ Inv-loop d₀ at s from n i₀ d i = (i ≤ n) × (length d ≡ length d₀) × 
 abbrev μ-loop : tie.MeasureT-loop
 μ-loop d₀ at s from n i₀ d i = n - i
 
--- src/lib.rt:172:5
 loop-holds : tie.Need-loop-holds Inv-loop μ-loop
 unfolding part
 loop-holds c = (omega arith, refl, sym (splice-none _ _))
 
--- src/lib.rt:173:23
 add-d : tie.Need-add-d Inv-loop μ-loop
 add-d c = search needs
 
--- src/lib.rt:173:21
 shared-slice-read-d : tie.Need-shared-slice-read-d Inv-loop μ-loop
 shared-slice-read-d c = search needs
 
--- src/lib.rt:173:11
 add-d-2 : tie.Need-add-d-2 Inv-loop μ-loop
 add-d-2 c = search needs
 
--- src/lib.rt:173:9
 slice-write-d : tie.Need-slice-write-d Inv-loop μ-loop
 slice-write-d c = search needs
 
--- src/lib.rt:174:9
 add-i : tie.Need-add-i Inv-loop μ-loop
 add-i c = search needs
 
--- src/lib.rt:172:5
 loop-less : tie.Need-loop-less Inv-loop μ-loop
 loop-less c = search needs
 
--- src/lib.rt:172:5
 loop-again : tie.Need-loop-again Inv-loop μ-loop
 loop-again c =
     let l = c .before .before .loop in
     (omega arith, simp length-set (omega arith), rw (l .inv .2) (copy-step _ _ (l .i) _ _ (omega arith) (omega arith)))
 
--- src/lib.rt:167:1
 same-length : tie.Need-same-length Inv-loop μ-loop
 same-length c = search needs
 
--- src/lib.rt:167:1
 returns : tie.Need-returns Inv-loop μ-loop
 returns c =
     let e : c .before .loop .i ≡ c .before .before .args .n = omega arith in

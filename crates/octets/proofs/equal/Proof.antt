@@ -1,45 +1,31 @@
+-- The proof of `equal`. Assumes nothing.
 use borrow.Author.Needs.{needs}
 use Rattle.octets.proofs.equal.Statement.{statement}
 use Rattle.octets.proofs.equal.Tie as tie
-use Rattle.octets.proofs.equal.Reads as reads
-use Rattle.octets.proofs.equal.Lts as lts
-use Rattle.octets.proofs.equal_bytes.Reads as equal-bytes-reads
-use Rattle.octets.proofs.equal_words.Reads as equal-words-reads
-use Prim.Native.Nat.{ℕ, _+_, _-_, _*_, _/_, _%_, _≤_, _<_}
+use Prim.Native.Nat.{_+_, _-_, _*_, _/_, _%_}
 use native.Mathlib.Omega.{arith}
-use mathlib.Core.Path.{_≡_, refl, sym, ap, _∙_}
-use mathlib.Core.Bool.{Bool, _&&_}
-use lib.ListN.{length}
+use mathlib.Core.Path.{_≡_, sym, _∙_}
 use denote.Ref.{now}
-use Rattle.model.specs.Lists.{same}
-use Rattle.model.specs.Numbers.{part}
 use Rattle.octets.proofs.Laws.{both}
 
--- src/lib.rt:159:8
 equal-words-requires : tie.Need-equal-words-requires
 equal-words-requires c κs = search needs
 
--- src/lib.rt:160:28
 mul-equal-bytes : tie.Need-mul-equal-bytes
 mul-equal-bytes c = search needs
 
--- src/lib.rt:160:24
 add-equal-bytes : tie.Need-add-equal-bytes
 add-equal-bytes c = search needs
 
--- src/lib.rt:160:42
 mul-equal-bytes-2 : tie.Need-mul-equal-bytes-2
 mul-equal-bytes-2 c = search needs
 
--- src/lib.rt:160:38
 add-equal-bytes-2 : tie.Need-add-equal-bytes-2
 add-equal-bytes-2 c = search needs
 
--- src/lib.rt:160:9
 equal-bytes-requires : tie.Need-equal-bytes-requires
 equal-bytes-requires c κs = search needs
 
--- src/lib.rt:154:1
 returns : tie.Need-returns
 returns c =
     let a = c .before .before .before .before .before .args in
@@ -48,7 +34,6 @@ returns c =
     c .equal-bytes .ensures
     ∙ sym (rw (z, e) at (both (now (a .s)) (now (a .t)) (a .a) (a .b) (8 * (a .n / 8)) (a .n % 8) (omega arith) (omega arith)))
 
--- src/lib.rt:154:1
 returns-2 : tie.Need-returns-2
 returns-2 c =
     let a = c .before .before .before .before .args in

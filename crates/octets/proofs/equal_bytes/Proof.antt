@@ -1,13 +1,11 @@
+-- The proof of `equal_bytes`. Assumes nothing.
 use Rattle.octets.proofs.equal_bytes.Statement.{statement}
 use Rattle.octets.proofs.equal_bytes.Tie as tie
-use Rattle.octets.proofs.equal_bytes.Reads as reads
-use Rattle.octets.proofs.equal_bytes.Lts as lts
-use Prim.Native.Nat.{ℕ, _+_, _-_, _*_, _/_, _%_, _≤_, _<_}
+use Prim.Native.Nat.{_-_, _≤_}
 use native.Mathlib.Omega.{arith}
-use mathlib.Core.Path.{_≡_, refl, sym, ap, _∙_}
-use lib.ListN.{length, replicate, length-set}
+use mathlib.Core.Path.{_≡_, refl, sym}
 use denote.Ref.{now}
-use Rattle.model.specs.Numbers.{bigEndian, bytesOf, part, splice}
+use Rattle.model.specs.Numbers.{part}
 use Rattle.model.proofs.NumberLaws.{big-one}
 use Rattle.octets.proofs.Laws.{step, stop, done}
 use borrow.Author.Needs.{needs}
@@ -18,43 +16,34 @@ Inv-loop s a t b n i₀ i = (i ≤ n) × (part a i s ≡ part b i t)
 abbrev μ-loop : tie.MeasureT-loop
 μ-loop s a t b n i₀ i = n - i
 
--- src/lib.rt:144:5
 loop-holds : tie.Need-loop-holds Inv-loop μ-loop
 unfolding part
 loop-holds c = (omega arith, refl)
 
--- src/lib.rt:145:14
 add-if1 : tie.Need-add-if1 Inv-loop μ-loop
 add-if1 c = search needs
 
--- src/lib.rt:145:12
 shared-slice-read-if1 : tie.Need-shared-slice-read-if1 Inv-loop μ-loop
 shared-slice-read-if1 c = search needs
 
--- src/lib.rt:145:26
 add-if1-2 : tie.Need-add-if1-2 Inv-loop μ-loop
 add-if1-2 c = search needs
 
--- src/lib.rt:145:24
 shared-slice-read-if1-2 : tie.Need-shared-slice-read-if1-2 Inv-loop μ-loop
 shared-slice-read-if1-2 c = search needs
 
--- src/lib.rt:146:13
 returns : tie.Need-returns Inv-loop μ-loop
 returns c =
     let l = c .before .before .before .before .loop in
     let a = c .before .before .before .before .before .args in
     sym (stop (now (a .s)) (now (a .t)) (a .a) (a .b) (a .n) (l .i) 1 (omega arith) (rw (big-one, big-one) (c .if1 .taken)))
 
--- src/lib.rt:148:9
 add-i : tie.Need-add-i Inv-loop μ-loop
 add-i c = search needs
 
--- src/lib.rt:144:5
 loop-less : tie.Need-loop-less Inv-loop μ-loop
 loop-less c = search needs
 
--- src/lib.rt:144:5
 loop-again : tie.Need-loop-again Inv-loop μ-loop
 loop-again c =
     let l = c .before .before .before .before .loop in
@@ -63,7 +52,6 @@ loop-again c =
     let q = c .before .shared-slice-known2 .given in
     (omega arith, step (now (a .s)) (now (a .t)) (a .a) (a .b) (l .i) 1 (λ i. omega (arith, p i)) (λ i. omega (arith, q i)) (l .inv .1) (omega arith) (omega arith) (rw (big-one, big-one) (c .if1 .left)))
 
--- src/lib.rt:139:1
 returns-2 : tie.Need-returns-2 Inv-loop μ-loop
 returns-2 c =
     let l = c .before .loop in

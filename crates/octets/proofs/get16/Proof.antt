@@ -1,54 +1,45 @@
+-- The proof of `get16`. Assumes nothing.
 use borrow.Author.Needs.{needs}
 use Rattle.octets.proofs.get16.Statement.{statement}
 use Rattle.octets.proofs.get16.Tie as tie
-use Rattle.octets.proofs.get16.Reads as reads
-use Rattle.octets.proofs.get16.Lts as lts
 use Prim.Native.Nat.{_+_}
 use native.Mathlib.Omega.{arith}
 use denote.Ref.{now}
 use Rattle.octets.proofs.Laws.{chain2}
 
--- src/lib.rt:14:5
 shared-slice-read-result : tie.Need-shared-slice-read-result
 shared-slice-read-result c = search needs
 
--- src/lib.rt:14:5
 cast-result : tie.Need-cast-result
 cast-result c =
     let g = c .shared-slice-known .given in
     let a = c .before .args .at in
     omega (arith, g a)
 
--- src/lib.rt:14:5
 mul-result : tie.Need-mul-result
 mul-result c =
     let g = c .shared-slice-known .given in
     let a = c .before .args .at in
     omega (arith, g a)
 
--- src/lib.rt:14:28
 add-result : tie.Need-add-result
 add-result c = search needs
 
--- src/lib.rt:14:26
 shared-slice-read-result-2 : tie.Need-shared-slice-read-result-2
 shared-slice-read-result-2 c = search needs
 
--- src/lib.rt:14:26
 cast-result-2 : tie.Need-cast-result-2
 cast-result-2 c =
     let g = c .shared-slice-known2 .given in
     let a = c .before .before .args .at in
     omega (arith, g a, g (a + 1))
 
--- src/lib.rt:14:5
 add-result-2 : tie.Need-add-result-2
 add-result-2 c =
     let g = c .shared-slice-known2 .given in
     let a = c .before .before .args .at in
     omega (arith, g a, g (a + 1))
 
--- src/lib.rt:10:1
 returns : tie.Need-returns
 returns c = chain2 (now (c .before .before .args .s)) (c .before .before .args .at)
 

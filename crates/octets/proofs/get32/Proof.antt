@@ -1,112 +1,93 @@
+-- The proof of `get32`. Assumes nothing.
 use borrow.Author.Needs.{needs}
 use Rattle.octets.proofs.get32.Statement.{statement}
 use Rattle.octets.proofs.get32.Tie as tie
-use Rattle.octets.proofs.get32.Reads as reads
-use Rattle.octets.proofs.get32.Lts as lts
 use Prim.Native.Nat.{_+_}
 use native.Mathlib.Omega.{arith}
 use denote.Ref.{now}
 use Rattle.octets.proofs.Laws.{chain4}
 
--- src/lib.rt:21:13
 shared-slice-read-a : tie.Need-shared-slice-read-a
 shared-slice-read-a c = search needs
 
--- src/lib.rt:21:13
 cast-a : tie.Need-cast-a
 cast-a c =
     let g = c .shared-slice-known .given in
     let a = c .before .args .at in
     omega (arith, g a)
 
--- src/lib.rt:21:13
 mul-a : tie.Need-mul-a
 mul-a c =
     let g = c .shared-slice-known .given in
     let a = c .before .args .at in
     omega (arith, g a)
 
--- src/lib.rt:21:36
 add-a : tie.Need-add-a
 add-a c = search needs
 
--- src/lib.rt:21:34
 shared-slice-read-a-2 : tie.Need-shared-slice-read-a-2
 shared-slice-read-a-2 c = search needs
 
--- src/lib.rt:21:34
 cast-a-2 : tie.Need-cast-a-2
 cast-a-2 c =
     let g = c .shared-slice-known2 .given in
     let a = c .before .before .args .at in
     omega (arith, g a, g (a + 1))
 
--- src/lib.rt:21:13
 add-a-2 : tie.Need-add-a-2
 add-a-2 c =
     let g = c .shared-slice-known2 .given in
     let a = c .before .before .args .at in
     omega (arith, g a, g (a + 1))
 
--- src/lib.rt:22:13
 mul-b : tie.Need-mul-b
 mul-b c =
     let g = c .shared-slice-known2 .given in
     let a = c .before .before .args .at in
     omega (arith, g a, g (a + 1))
 
--- src/lib.rt:22:25
 add-b : tie.Need-add-b
 add-b c = search needs
 
--- src/lib.rt:22:23
 shared-slice-read-b : tie.Need-shared-slice-read-b
 shared-slice-read-b c = search needs
 
--- src/lib.rt:22:23
 cast-b : tie.Need-cast-b
 cast-b c =
     let g = c .shared-slice-known3 .given in
     let a = c .before .before .before .args .at in
     omega (arith, g a, g (a + 1), g (a + 2))
 
--- src/lib.rt:22:13
 add-b-2 : tie.Need-add-b-2
 add-b-2 c =
     let g = c .shared-slice-known3 .given in
     let a = c .before .before .before .args .at in
     omega (arith, g a, g (a + 1), g (a + 2))
 
--- src/lib.rt:23:5
 mul-result : tie.Need-mul-result
 mul-result c =
     let g = c .shared-slice-known3 .given in
     let a = c .before .before .before .args .at in
     omega (arith, g a, g (a + 1), g (a + 2))
 
--- src/lib.rt:23:17
 add-result : tie.Need-add-result
 add-result c = search needs
 
--- src/lib.rt:23:15
 shared-slice-read-result : tie.Need-shared-slice-read-result
 shared-slice-read-result c = search needs
 
--- src/lib.rt:23:15
 cast-result : tie.Need-cast-result
 cast-result c =
     let g = c .shared-slice-known4 .given in
     let a = c .before .before .before .before .args .at in
     omega (arith, g a, g (a + 1), g (a + 2), g (a + 3))
 
--- src/lib.rt:23:5
 add-result-2 : tie.Need-add-result-2
 add-result-2 c =
     let g = c .shared-slice-known4 .given in
     let a = c .before .before .before .before .args .at in
     omega (arith, g a, g (a + 1), g (a + 2), g (a + 3))
 
--- src/lib.rt:17:1
 returns : tie.Need-returns
 returns c = chain4 (now (c .before .before .before .before .args .s)) (c .before .before .before .before .args .at)
 

@@ -1,39 +1,30 @@
+-- The proof of `put16`. Assumes nothing.
 use borrow.Author.Needs.{needs}
 use Rattle.octets.proofs.put16.Statement.{statement}
 use Rattle.octets.proofs.put16.Tie as tie
-use Rattle.octets.proofs.put16.Reads as reads
-use Rattle.octets.proofs.put16.Lts as lts
-use Prim.Native.Nat.{_+_}
 use native.Mathlib.Omega.{arith}
 use native.Mathlib.Nat.{add-zero}
 use lib.ListN.{length-set}
 use Rattle.octets.proofs.Laws.{stores-is}
 
--- src/lib.rt:45:17
 cast-s : tie.Need-cast-s
 cast-s c = search needs
 
--- src/lib.rt:45:7
 add-s : tie.Need-add-s
 add-s c = search needs
 
--- src/lib.rt:45:5
 slice-write-s : tie.Need-slice-write-s
 slice-write-s c = search needs
 
--- src/lib.rt:46:13
 cast-s-2 : tie.Need-cast-s-2
 cast-s-2 c = search needs
 
--- src/lib.rt:46:5
 slice-write-s-2 : tie.Need-slice-write-s-2
 slice-write-s-2 c = simp length-set (omega arith)
 
--- src/lib.rt:41:1
 same-length : tie.Need-same-length
 same-length c = simp length-set
 
--- src/lib.rt:41:1
 returns : tie.Need-returns
 returns c = rw add-zero at (stores-is 2 (c .args .at) (c .args .s .now) (c .args .x) (omega arith))
 

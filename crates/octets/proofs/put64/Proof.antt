@@ -1,111 +1,84 @@
+-- The proof of `put64`. Assumes nothing.
 use borrow.Author.Needs.{needs}
 use Rattle.octets.proofs.put64.Statement.{statement}
 use Rattle.octets.proofs.put64.Tie as tie
-use Rattle.octets.proofs.put64.Reads as reads
-use Rattle.octets.proofs.put64.Lts as lts
-use Prim.Native.Nat.{_+_}
 use native.Mathlib.Omega.{arith}
 use native.Mathlib.Nat.{add-zero}
 use lib.ListN.{length-set}
 use Rattle.octets.proofs.Laws.{stores-is}
 
--- src/lib.rt:65:17
 cast-s : tie.Need-cast-s
 cast-s c = search needs
 
--- src/lib.rt:65:7
 add-s : tie.Need-add-s
 add-s c = search needs
 
--- src/lib.rt:65:5
 slice-write-s : tie.Need-slice-write-s
 slice-write-s c = search needs
 
--- src/lib.rt:67:17
 cast-s-2 : tie.Need-cast-s-2
 cast-s-2 c = search needs
 
--- src/lib.rt:67:7
 add-s-2 : tie.Need-add-s-2
 add-s-2 c = search needs
 
--- src/lib.rt:67:5
 slice-write-s-2 : tie.Need-slice-write-s-2
 slice-write-s-2 c = simp length-set (omega arith)
 
--- src/lib.rt:69:17
 cast-s-3 : tie.Need-cast-s-3
 cast-s-3 c = search needs
 
--- src/lib.rt:69:7
 add-s-3 : tie.Need-add-s-3
 add-s-3 c = search needs
 
--- src/lib.rt:69:5
 slice-write-s-3 : tie.Need-slice-write-s-3
 slice-write-s-3 c = simp length-set (omega arith)
 
--- src/lib.rt:71:17
 cast-s-4 : tie.Need-cast-s-4
 cast-s-4 c = search needs
 
--- src/lib.rt:71:7
 add-s-4 : tie.Need-add-s-4
 add-s-4 c = search needs
 
--- src/lib.rt:71:5
 slice-write-s-4 : tie.Need-slice-write-s-4
 slice-write-s-4 c = simp length-set (omega arith)
 
--- src/lib.rt:73:17
 cast-s-5 : tie.Need-cast-s-5
 cast-s-5 c = search needs
 
--- src/lib.rt:73:7
 add-s-5 : tie.Need-add-s-5
 add-s-5 c = search needs
 
--- src/lib.rt:73:5
 slice-write-s-5 : tie.Need-slice-write-s-5
 slice-write-s-5 c = simp length-set (omega arith)
 
--- src/lib.rt:75:17
 cast-s-6 : tie.Need-cast-s-6
 cast-s-6 c = search needs
 
--- src/lib.rt:75:7
 add-s-6 : tie.Need-add-s-6
 add-s-6 c = search needs
 
--- src/lib.rt:75:5
 slice-write-s-6 : tie.Need-slice-write-s-6
 slice-write-s-6 c = simp length-set (omega arith)
 
--- src/lib.rt:77:17
 cast-s-7 : tie.Need-cast-s-7
 cast-s-7 c = search needs
 
--- src/lib.rt:77:7
 add-s-7 : tie.Need-add-s-7
 add-s-7 c = search needs
 
--- src/lib.rt:77:5
 slice-write-s-7 : tie.Need-slice-write-s-7
 slice-write-s-7 c = simp length-set (omega arith)
 
--- src/lib.rt:78:13
 cast-s-8 : tie.Need-cast-s-8
 cast-s-8 c = search needs
 
--- src/lib.rt:78:5
 slice-write-s-8 : tie.Need-slice-write-s-8
 slice-write-s-8 c = simp length-set (omega arith)
 
--- src/lib.rt:61:1
 same-length : tie.Need-same-length
 same-length c = simp length-set
 
--- src/lib.rt:61:1
 returns : tie.Need-returns
 returns c = rw add-zero at (stores-is 8 (c .args .at) (c .args .s .now) (c .args .x) (omega arith))
 

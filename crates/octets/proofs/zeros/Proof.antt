@@ -1,57 +1,59 @@
-use borrow.Author.Needs.{needs}
+-- The proof of `zeros`. Assumes nothing.
 use Rattle.octets.proofs.zeros.Statement.{statement}
 use Rattle.octets.proofs.zeros.Tie as tie
-use Rattle.octets.proofs.zeros.Reads as reads
-use Rattle.octets.proofs.zeros.Lts as lts
-use Rattle.octets.proofs.zero_bytes.Reads as zero-bytes-reads
-use Rattle.octets.proofs.zero_words.Reads as zero-words-reads
-use Prim.Native.Nat.{ℕ, _+_, _-_, _*_, _/_, _%_, _≤_, _<_}
+use borrow.Author.Needs.{needs}
+use Prim.Native.Nat.{_-_, _≤_}
 use native.Mathlib.Omega.{arith}
-use mathlib.Core.Path.{_≡_, refl, sym, ap, _∙_}
-use lib.ListN.{length, replicate, length-set}
+use mathlib.Core.Path.{_≡_, refl}
+use lib.Dec.{eqb}
 use denote.Ref.{now}
-use Rattle.model.specs.Numbers.{bigEndian, bytesOf, part, splice}
-use Rattle.octets.proofs.Laws.{noughts, zero-both}
+use Rattle.model.specs.Lists.{same}
+use Rattle.model.specs.Numbers.{part}
+use Rattle.octets.proofs.Laws.{noughts, zeros-next}
 
--- src/lib.rt:117:8
-zero-words-requires : tie.Need-zero-words-requires
-zero-words-requires c κs = search needs
+abbrev Inv-loop : tie.InvT-loop
+Inv-loop s at n seen₀ i₀ seen i = (i ≤ n) × (eqb seen 0 ≡ same (noughts i) (part at i s))
 
--- src/lib.rt:118:28
-mul-zero-bytes : tie.Need-mul-zero-bytes
-mul-zero-bytes c = search needs
+abbrev μ-loop : tie.MeasureT-loop
+μ-loop s at n seen₀ i₀ seen i = n - i
 
--- src/lib.rt:118:23
-add-zero-bytes : tie.Need-add-zero-bytes
-add-zero-bytes c = search needs
+loop-holds : tie.Need-loop-holds Inv-loop μ-loop
+unfolding same part
+loop-holds c = (omega arith, refl)
 
--- src/lib.rt:118:9
-zero-bytes-requires : tie.Need-zero-bytes-requires
-zero-bytes-requires c κs = search needs
+add-seen : tie.Need-add-seen Inv-loop μ-loop
+add-seen c = search needs
 
--- src/lib.rt:112:1
-returns : tie.Need-returns
-returns c =
-    let a = c .before .before .before .before .args in
-    let e : 8 * (a .n / 8) + a .n % 8 ≡ a .n = omega arith in
-    let z = sym (c .before .before .zero-words .ensures) ∙ c .before .if1 .taken in
-    c .zero-bytes .ensures ∙ rw z at (zero-both (now (a .s)) (a .at) (a .n) (8 * (a .n / 8)) (a .n % 8) e (omega arith))
+shared-slice-read-seen : tie.Need-shared-slice-read-seen Inv-loop μ-loop
+shared-slice-read-seen c = search needs
 
--- src/lib.rt:112:1
-returns-2 : tie.Need-returns-2
-returns-2 c =
+add-i : tie.Need-add-i Inv-loop μ-loop
+add-i c = search needs
+
+loop-less : tie.Need-loop-less Inv-loop μ-loop
+loop-less c = search needs
+
+loop-again : tie.Need-loop-again Inv-loop μ-loop
+loop-again c =
+    let l = c .before .before .loop in
     let a = c .before .before .before .args in
-    let e : 8 * (a .n / 8) + a .n % 8 ≡ a .n = omega arith in
-    let z = sym (c .before .zero-words .ensures) ∙ c .if1 .left in
-    rw z at (zero-both (now (a .s)) (a .at) (a .n) (8 * (a .n / 8)) (a .n % 8) e (omega arith))
+    (omega arith, zeros-next (now (a .s)) (a .at) (l .i) (l .seen) (omega arith) (l .inv .1))
+
+returns : tie.Need-returns Inv-loop μ-loop
+returns c =
+    let e : c .before .loop .i ≡ c .before .before .args .n = omega arith in
+    rw e at (c .before .loop .inv .1)
 
 pub zeros-spec : {M : Type 1} → statement M
 zeros-spec =
     tie.close
     (tie.spec
-    zero-words-requires
-    mul-zero-bytes
-    add-zero-bytes
-    zero-bytes-requires
-    returns
-    returns-2)
+    Inv-loop
+    μ-loop
+    loop-holds
+    add-seen
+    shared-slice-read-seen
+    add-i
+    loop-less
+    loop-again
+    returns)

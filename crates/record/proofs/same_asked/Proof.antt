@@ -48,8 +48,12 @@ returns-2 : tie.Need-returns-2
 unfolding holdingAt readEntry
 returns-2 c =
     rw (
-      ← c .before .before .before .before .before .get16 .ensures, ← c .before .before .before .before .get162 .ensures, eq-eqb _ _ (c .before .before .before .if1 .left),
-      ← c .before .before .get163 .ensures, ← c .before .get164 .ensures, ne-eqb _ _ (c .if2 .taken),
+      ← c .before .before .before .before .before .get16 .ensures,
+      ← c .before .before .before .before .get162 .ensures,
+      eq-eqb _ _ (c .before .before .before .if1 .left),
+      ← c .before .before .get163 .ensures,
+      ← c .before .get164 .ensures,
+      ne-eqb _ _ (c .if2 .taken),
     )
 
 add-get16-5 : tie.Need-add-get16-5
@@ -68,9 +72,15 @@ returns-3 : tie.Need-returns-3
 unfolding holdingAt readEntry
 returns-3 c =
     rw (
-      ← c .before .before .before .before .before .before .before .before .get16 .ensures, ← c .before .before .before .before .before .before .before .get162 .ensures, eq-eqb _ _ (c .before .before .before .before .before .before .if1 .left),
-      ← c .before .before .before .before .before .get163 .ensures, ← c .before .before .before .before .get164 .ensures, eq-eqb _ _ (c .before .before .before .if2 .left),
-      ← c .before .before .get165 .ensures, ← c .before .get166 .ensures, ne-eqb _ _ (c .if3 .taken),
+      ← c .before .before .before .before .before .before .before .before .get16 .ensures,
+      ← c .before .before .before .before .before .before .before .get162 .ensures,
+      eq-eqb _ _ (c .before .before .before .before .before .before .if1 .left),
+      ← c .before .before .before .before .before .get163 .ensures,
+      ← c .before .before .before .before .get164 .ensures,
+      eq-eqb _ _ (c .before .before .before .if2 .left),
+      ← c .before .before .get165 .ensures,
+      ← c .before .get166 .ensures,
+      ne-eqb _ _ (c .if3 .taken),
     )
 
 add-len : tie.Need-add-len
@@ -92,9 +102,15 @@ returns-4 c =
     let la = length-part (x .a + 40) (getD (x .t .now) (x .a + 39) 0) (x .t .now) (omega (arith, c .before .before .before .before .before .before .before .before .before .before .before .before .shared-slice-known .given (x .a + 39))) in
     let lc = length-part (x .c + 40) (getD (x .t .now) (x .c + 39) 0) (x .t .now) (omega (arith, c .before .before .before .before .before .before .before .before .before .before .before .before .shared-slice-known .given (x .c + 39))) in
     rw (
-      ← c .before .before .before .before .before .before .before .before .before .before .before .get16 .ensures, ← c .before .before .before .before .before .before .before .before .before .before .get162 .ensures, eq-eqb _ _ (c .before .before .before .before .before .before .before .before .before .if1 .left),
-      ← c .before .before .before .before .before .before .before .before .get163 .ensures, ← c .before .before .before .before .before .before .before .get164 .ensures, eq-eqb _ _ (c .before .before .before .before .before .before .if2 .left),
-      ← c .before .before .before .before .before .get165 .ensures, ← c .before .before .before .before .get166 .ensures, eq-eqb _ _ (c .before .before .before .if3 .left),
+      ← c .before .before .before .before .before .before .before .before .before .before .before .get16 .ensures,
+      ← c .before .before .before .before .before .before .before .before .before .before .get162 .ensures,
+      eq-eqb _ _ (c .before .before .before .before .before .before .before .before .before .if1 .left),
+      ← c .before .before .before .before .before .before .before .before .get163 .ensures,
+      ← c .before .before .before .before .before .before .before .get164 .ensures,
+      eq-eqb _ _ (c .before .before .before .before .before .before .if2 .left),
+      ← c .before .before .before .before .before .get165 .ensures,
+      ← c .before .before .before .before .get166 .ensures,
+      eq-eqb _ _ (c .before .before .before .if3 .left),
     ) (sym (same-length _ _ (λ z. c .if4 .taken (sym la ∙ z ∙ lc))))
 
 add-equal : tie.Need-add-equal
@@ -113,9 +129,15 @@ returns-5 : tie.Need-returns-5
 unfolding holdingAt readEntry
 returns-5 c =
     rw (
-      ← c .before .before .before .before .before .before .before .before .before .before .before .before .get16 .ensures, ← c .before .before .before .before .before .before .before .before .before .before .before .get162 .ensures, eq-eqb _ _ (c .before .before .before .before .before .before .before .before .before .before .if1 .left),
-      ← c .before .before .before .before .before .before .before .before .before .get163 .ensures, ← c .before .before .before .before .before .before .before .before .get164 .ensures, eq-eqb _ _ (c .before .before .before .before .before .before .before .if2 .left),
-      ← c .before .before .before .before .before .before .get165 .ensures, ← c .before .before .before .before .before .get166 .ensures, eq-eqb _ _ (c .before .before .before .before .if3 .left),
+      ← c .before .before .before .before .before .before .before .before .before .before .before .before .get16 .ensures,
+      ← c .before .before .before .before .before .before .before .before .before .before .before .get162 .ensures,
+      eq-eqb _ _ (c .before .before .before .before .before .before .before .before .before .before .if1 .left),
+      ← c .before .before .before .before .before .before .before .before .before .get163 .ensures,
+      ← c .before .before .before .before .before .before .before .before .get164 .ensures,
+      eq-eqb _ _ (c .before .before .before .before .before .before .before .if2 .left),
+      ← c .before .before .before .before .before .before .get165 .ensures,
+      ← c .before .before .before .before .before .get166 .ensures,
+      eq-eqb _ _ (c .before .before .before .before .if3 .left),
       ← c .before .if4 .left,
     ) (c .equal .ensures)
 

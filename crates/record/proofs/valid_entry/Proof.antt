@@ -38,7 +38,11 @@ returns-3 : tie.Need-returns-3
 unfolding holdingAt readEntry
 returns-3 c =
     rw (
-      ← c .before .before .before .before .get64 .ensures, ne-eqb _ _ (c .before .before .before .if1 .left), ← c .before .before .get32 .ensures, le-leb _ _ (c .before .if2 .left), lt-leb _ _ (c .if3 .taken),
+      ← c .before .before .before .before .get64 .ensures,
+      ne-eqb _ _ (c .before .before .before .if1 .left),
+      ← c .before .before .get32 .ensures,
+      le-leb _ _ (c .before .if2 .left),
+      lt-leb _ _ (c .if3 .taken),
     )
 
 add-get32-2 : tie.Need-add-get32-2
@@ -54,8 +58,15 @@ returns-4 : tie.Need-returns-4
 unfolding holdingAt readEntry
 returns-4 c =
     rw (
-      ← c .before .before .before .before .before .before .before .get64 .ensures, ne-eqb _ _ (c .before .before .before .before .before .before .if1 .left), ← c .before .before .before .before .before .get32 .ensures, le-leb _ _ (c .before .before .before .before .if2 .left), le-leb _ _ (c .before .before .before .if3 .left),
-      ← c .before .before .before .before .before .before .before .before .before .pre .1, ← c .before .before .get322 .ensures, ← c .before .age .ensures, le-ltb _ _ (c .if4 .taken),
+      ← c .before .before .before .before .before .before .before .get64 .ensures,
+      ne-eqb _ _ (c .before .before .before .before .before .before .if1 .left),
+      ← c .before .before .before .before .before .get32 .ensures,
+      le-leb _ _ (c .before .before .before .before .if2 .left),
+      le-leb _ _ (c .before .before .before .if3 .left),
+      ← c .before .before .before .before .before .before .before .before .before .pre .1,
+      ← c .before .before .get322 .ensures,
+      ← c .before .age .ensures,
+      le-ltb _ _ (c .if4 .taken),
     )
 
 add-len : tie.Need-add-len
@@ -77,8 +88,15 @@ returns-5 : tie.Need-returns-5
 unfolding holdingAt readEntry
 returns-5 c =
     rw (
-      ← c .before .before .before .before .before .before .before .before .before .get64 .ensures, ne-eqb _ _ (c .before .before .before .before .before .before .before .before .if1 .left), ← c .before .before .before .before .before .before .before .get32 .ensures, le-leb _ _ (c .before .before .before .before .before .before .if2 .left), le-leb _ _ (c .before .before .before .before .before .if3 .left),
-      ← c .before .before .before .before .before .before .before .before .before .before .before .pre .1, ← c .before .before .before .before .get322 .ensures, ← c .before .before .before .age .ensures, lt-ltb _ _ (c .before .before .if4 .left),
+      ← c .before .before .before .before .before .before .before .before .before .get64 .ensures,
+      ne-eqb _ _ (c .before .before .before .before .before .before .before .before .if1 .left),
+      ← c .before .before .before .before .before .before .before .get32 .ensures,
+      le-leb _ _ (c .before .before .before .before .before .before .if2 .left),
+      le-leb _ _ (c .before .before .before .before .before .if3 .left),
+      ← c .before .before .before .before .before .before .before .before .before .before .before .pre .1,
+      ← c .before .before .before .before .get322 .ensures,
+      ← c .before .before .before .age .ensures,
+      lt-ltb _ _ (c .before .before .if4 .left),
     ) (c .lower-name .ensures)
 
 pub valid-entry-spec : {M : Type 1} → statement M

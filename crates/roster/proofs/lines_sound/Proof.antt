@@ -32,7 +32,9 @@ returns-3 : tie.Need-returns-3
 unfolding soundRoster
 returns-3 c =
     rw (
-      sym (c .before .before .before .before .lines-valid .ensures) ∙ not-false _ (c .before .before .before .if1 .left), sym (c .before .before .lines-apart .ensures) ∙ not-false _ (c .before .if2 .left), c .share-sum .ensures,
+      sym (c .before .before .before .before .lines-valid .ensures) ∙ not-false _ (c .before .before .before .if1 .left),
+      sym (c .before .before .lines-apart .ensures) ∙ not-false _ (c .before .if2 .left),
+      c .share-sum .ensures,
     )
 
 pub lines-sound-spec : {M : Type 1} → statement M

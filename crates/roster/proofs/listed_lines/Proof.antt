@@ -32,7 +32,7 @@ shared-slice-read-if1 c = search needs
 returns : tie.Need-returns Inv-loop μ-loop
 returns c =
     let l = c .before .before .before .loop in
-    (omega arith, sym (listed-stop _ (l .i) 16 (l .inv .1) (c .if1 .taken) (omega arith)))
+    (sym (listed-stop _ (l .i) 16 (l .inv .1) (c .if1 .taken) (omega arith)), omega arith)
 
 add-i : tie.Need-add-i Inv-loop μ-loop
 add-i c = search needs
@@ -48,7 +48,7 @@ loop-again c =
 returns-2 : tie.Need-returns-2 Inv-loop μ-loop
 returns-2 c =
     let e : c .before .loop .i ≡ 16 = omega arith in
-    (omega arith, rw e (sym (rw e at (c .before .loop .inv .1))))
+    (rw e (sym (rw e at (c .before .loop .inv .1))), omega arith)
 
 pub listed-lines-spec : {M : Type 1} → statement M
 listed-lines-spec =

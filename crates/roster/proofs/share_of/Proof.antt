@@ -1,5 +1,5 @@
 -- `roster::share_of` meets its contract: the first line of the address decides, and no line passed has it. Assumes nothing.
-use Prim.Native.Nat.{_+_, _-_, _*_, _^_, _≤_, _<_}
+use Prim.Native.Nat.{_+_, _-_, _*_, _^_, _≤_}
 use mathlib.Core.Path.{_≡_, refl, sym, _∙_}
 use mathlib.Core.Bool.{true}
 use native.Mathlib.Omega.{arith}
@@ -52,8 +52,7 @@ unfolding readLine
 returns c =
     let l = c .before .before .before .before .before .loop in
     let a = c .before .before .before .before .before .before .before .args in
-    let b : c .wide .result < 256 = omega (arith, c .before .shared-slice-known2 .given (9 + 19 * l .i + 17)) in
-    (b, c .wide .ensures ∙ sym (share-hit _ _ (a .m) (l .i) (omega arith) (l .inv .1) (sym (c .before .before .before .has-address .ensures) ∙ c .before .before .if1 .taken)))
+    c .wide .ensures ∙ sym (share-hit _ _ (a .m) (l .i) (omega arith) (l .inv .1) (sym (c .before .before .before .has-address .ensures) ∙ c .before .before .if1 .taken))
 
 add-i : tie.Need-add-i Inv-loop μ-loop
 add-i c = search needs
@@ -70,7 +69,7 @@ loop-again c =
 returns-2 : tie.Need-returns-2 Inv-loop μ-loop
 returns-2 c =
     let e : c .before .loop .i ≡ c .before .before .before .args .m = omega arith in
-    (omega arith, sym (share-none _ _ (rw e at (c .before .loop .inv .1))))
+    sym (share-none _ _ (rw e at (c .before .loop .inv .1)))
 
 pub share-of-spec : {M : Type 1} → statement M
 share-of-spec =

@@ -1,13 +1,11 @@
+-- The proof of `Cursor::name`. Assumes nothing.
 use Rattle.wire.proofs.Cursor.name.Statement.{statement}
 use Rattle.wire.proofs.Cursor.name.Tie as tie
-use Rattle.wire.proofs.Cursor.name.Reads as reads
-use Rattle.wire.proofs.Cursor.name.Lts as lts
-use Rattle.wire.proofs.Cursor.label.Reads as label-reads
 use borrow.Author.Needs.{needs}
-use Prim.Native.Nat.{ℕ, _+_, _-_, _≤_, _<_}
+use Prim.Native.Nat.{_+_, _-_, _≤_}
 use native.Mathlib.Omega.{arith}
-use mathlib.Core.Path.{_≡_, refl, sym, ap, _∙_}
-use lib.ListN.{length, getD, drop}
+use mathlib.Core.Path.{_≡_, sym, _∙_}
+use lib.ListN.{drop}
 use denote.Ref.{now}
 use Rattle.model.specs.Names.{nameSize}
 use Rattle.model.specs.Query.{nameAt}
@@ -19,23 +17,18 @@ Inv-loop s start c₀ c = (start ≤ c .at) × (c .at ≤ start + 318) × (nameA
 abbrev μ-loop : tie.MeasureT-loop
 μ-loop s start c₀ c = start + 318 - c .at
 
--- src/lib.rt:135:9
 loop-holds : tie.Need-loop-holds Inv-loop μ-loop
 loop-holds c = (search needs, omega arith, law.name-start (now (c .before .args .s)) (c .before .args .self .at))
 
--- src/lib.rt:135:15
 sub-if1 : tie.Need-sub-if1 Inv-loop μ-loop
 sub-if1 c = search needs
 
--- src/lib.rt:136:19
 label-requires : tie.Need-label-requires Inv-loop μ-loop
 label-requires c κs = search needs
 
--- src/lib.rt:137:34
 enum-known-next : tie.Need-enum-known-next Inv-loop μ-loop
 enum-known-next c = search needs
 
--- src/lib.rt:135:9
 loop-less : tie.Need-loop-less Inv-loop μ-loop
 loop-less c =
     let l = c .before .before .before in
@@ -43,7 +36,6 @@ loop-less c =
     let a = l .before .before .before .before .before .args in
     omega (arith, law.after (now (a .s)) (a .self .at) (i .c .at) (i .inv .0) (sym (l .label .ensures) ∙ c .before .next .given .1))
 
--- src/lib.rt:135:9
 loop-again : tie.Need-loop-again Inv-loop μ-loop
 loop-again c =
     let l = c .before .before .before in
@@ -52,11 +44,9 @@ loop-again c =
     let g = law.after (now (a .s)) (a .self .at) (i .c .at) (i .inv .0) (sym (l .label .ensures) ∙ c .before .next .given .1) in
     (omega arith, omega arith, i .inv .2 ∙ g .2)
 
--- src/lib.rt:140:33
 enum-known-next-2 : tie.Need-enum-known-next-2 Inv-loop μ-loop
 enum-known-next-2 c = search needs
 
--- src/lib.rt:141:43
 sub-t10 : tie.Need-sub-t10 Inv-loop μ-loop
 sub-t10 c =
     let l = c .before .before .before .before in
@@ -64,7 +54,6 @@ sub-t10 c =
     let a = l .before .before .before .before .before .args in
     omega (arith, law.after (now (a .s)) (a .self .at) (i .c .at) (i .inv .0) (sym (l .label .ensures) ∙ c .before .before .next2 .given .1))
 
--- src/lib.rt:141:21
 returns : tie.Need-returns Inv-loop μ-loop
 returns c =
     let l = c .before .before .before .before in
@@ -73,11 +62,9 @@ returns c =
     let g = law.after (now (a .s)) (a .self .at) (i .c .at) (i .inv .0) (sym (l .label .ensures) ∙ c .before .before .next2 .given .1) in
     sym (law.name-found (now (a .s)) (a .self .at) (i .c) (i .inv .2) (c .before .before .next2 .given .0 .0) (i .inv .0) (omega arith) (g .0) (g .1))
 
--- src/lib.rt:144:21
 enum-told : tie.Need-enum-told Inv-loop μ-loop
 enum-told c = search needs
 
--- src/lib.rt:144:21
 returns-2 : tie.Need-returns-2 Inv-loop μ-loop
 returns-2 c =
     let l = c .before .before in
@@ -86,7 +73,6 @@ returns-2 c =
     sym (law.name-bad (now (a .s)) (a .self .at) (i .c) (i .inv .2)
     (law.after (now (a .s)) (a .self .at) (i .c .at) (i .inv .0) (sym (l .label .ensures) ∙ c .enum-told .given .1)))
 
--- src/lib.rt:130:5
 returns-3 : tie.Need-returns-3 Inv-loop μ-loop
 returns-3 c =
     let i = c .before .before .loop in

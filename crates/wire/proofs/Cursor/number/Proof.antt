@@ -1,37 +1,28 @@
+-- The proof of `Cursor::number`. Assumes nothing.
 use borrow.Author.Needs.{needs}
 use Rattle.wire.proofs.Cursor.number.Statement.{statement}
 use Rattle.wire.proofs.Cursor.number.Tie as tie
-use Rattle.wire.proofs.Cursor.number.Reads as reads
-use Rattle.wire.proofs.Cursor.number.Lts as lts
-use Rattle.octets.proofs.get16.Reads as get16-reads
-use Prim.Native.Nat.{ℕ, _+_, _-_, _≤_, _<_}
+use Prim.Native.Nat.{_+_, _-_}
 use native.Mathlib.Omega.{arith}
-use mathlib.Core.Path.{_≡_, refl, sym, ap, _∙_}
-use lib.ListN.{length, getD, drop}
+use lib.ListN.{length}
 use denote.Ref.{now}
 use borrow.Author.Tests.{le-leb, lt-leb}
 
--- src/lib.rt:101:13
 returns : tie.Need-returns
 returns c = let a = c .before .before .args in simp (lt-leb (a .self .at + 2) (length (now (a .s))) (omega arith))
 
--- src/lib.rt:103:12
 sub-if2 : tie.Need-sub-if2
 sub-if2 c = search needs
 
--- src/lib.rt:104:13
 returns-2 : tie.Need-returns-2
 returns-2 c = let a = c .before .before .before .args in simp (lt-leb (a .self .at + 2) (length (now (a .s))) (omega arith))
 
--- src/lib.rt:106:28
 get16-requires : tie.Need-get16-requires
 get16-requires c κs = search needs
 
--- src/lib.rt:106:63
 add-t4 : tie.Need-add-t4
 add-t4 c = search needs
 
--- src/lib.rt:96:5
 returns-3 : tie.Need-returns-3
 returns-3 c = let a = c .before .before .before .before .args in simp (le-leb (a .self .at + 2) (length (now (a .s))) (omega arith), c .get16 .ensures)
 

@@ -1,57 +1,44 @@
+-- The proof of `Cursor::option`. Assumes nothing.
 use borrow.Author.Needs.{needs}
 use Rattle.wire.proofs.Cursor.option.Statement.{statement}
 use Rattle.wire.proofs.Cursor.option.Tie as tie
-use Rattle.wire.proofs.Cursor.option.Reads as reads
-use Rattle.wire.proofs.Cursor.option.Lts as lts
-use Rattle.octets.proofs.get16.Reads as get16-reads
-use Prim.Native.Nat.{ℕ, _+_, _-_, _≤_, _<_}
+use Prim.Native.Nat.{_+_, _-_}
 use native.Mathlib.Omega.{arith}
-use mathlib.Core.Path.{_≡_, refl, sym, ap, _∙_}
-use lib.ListN.{length, getD, drop}
+use lib.ListN.{length}
 use denote.Ref.{now}
 use borrow.Author.Tests.{le-leb, lt-leb}
 use Rattle.model.specs.Numbers.{bigEndian}
 use Rattle.model.specs.Query.{goodOption}
 
--- src/lib.rt:180:13
 returns : tie.Need-returns
 unfolding goodOption
 returns c = let a = c .before .before .args in simp (lt-leb (a .self .at + 4 + bigEndian (now (a .s)) (a .self .at + 2) 2) (length (now (a .s))) (omega arith))
 
--- src/lib.rt:182:12
 sub-if2 : tie.Need-sub-if2
 sub-if2 c = search needs
 
--- src/lib.rt:183:13
 returns-2 : tie.Need-returns-2
 unfolding goodOption
 returns-2 c = let a = c .before .before .before .args in simp (lt-leb (a .self .at + 4 + bigEndian (now (a .s)) (a .self .at + 2) 2) (length (now (a .s))) (omega arith))
 
--- src/lib.rt:185:13
 get16-requires : tie.Need-get16-requires
 get16-requires c κs = search needs
 
--- src/lib.rt:186:21
 add-start : tie.Need-add-start
 add-start c = search needs
 
--- src/lib.rt:187:37
 add-get16 : tie.Need-add-get16
 add-get16 c = search needs
 
--- src/lib.rt:187:20
 get16-requires-2 : tie.Need-get16-requires-2
 get16-requires-2 c κs = search needs
 
--- src/lib.rt:187:20
 cast-size : tie.Need-cast-size
 cast-size c = search needs
 
--- src/lib.rt:188:12
 sub-if3 : tie.Need-sub-if3
 sub-if3 c = search needs
 
--- src/lib.rt:189:13
 returns-3 : tie.Need-returns-3
 unfolding goodOption
 returns-3 c =
@@ -59,11 +46,9 @@ returns-3 c =
     let e = c .before .get162 .ensures in
     simp (lt-leb (a .self .at + 4 + bigEndian (now (a .s)) (a .self .at + 2) 2) (length (now (a .s))) (omega arith))
 
--- src/lib.rt:195:32
 add-t9 : tie.Need-add-t9
 add-t9 c = search needs
 
--- src/lib.rt:175:5
 returns-4 : tie.Need-returns-4
 unfolding goodOption
 returns-4 c =

@@ -1,55 +1,39 @@
+-- The proof of `Cursor::question`. Assumes nothing.
 use borrow.Author.Needs.{needs}
 use Rattle.wire.proofs.Cursor.question.Statement.{statement}
 use Rattle.wire.proofs.Cursor.question.Tie as tie
-use Rattle.wire.proofs.Cursor.question.Reads as reads
-use Rattle.wire.proofs.Cursor.question.Lts as lts
-use Rattle.wire.proofs.Cursor.name.Reads as name-reads
-use Rattle.wire.proofs.Cursor.number.Reads as number-reads
-use Prim.Native.Nat.{ℕ, _+_, _-_, _*_, _≤_, _<_}
-use native.Mathlib.Omega.{arith}
-use mathlib.Core.Path.{_≡_, refl, sym, ap, _∙_}
-use mathlib.Core.List.{List, [], _∷_, map}
-use lib.ListN.{length}
+use Prim.Native.Nat.{_-_}
+use mathlib.Core.Path.{sym, _∙_}
 use denote.Ref.{now}
 use Rattle.wire.proofs.Reading as law
 
--- src/lib.rt:156:15
 name-requires : tie.Need-name-requires
 name-requires c κs = search needs
 
--- src/lib.rt:157:28
 enum-known-len : tie.Need-enum-known-len
 enum-known-len c = search needs
 
--- src/lib.rt:157:46
 number-requires : tie.Need-number-requires
 number-requires c κs = search needs
 
--- src/lib.rt:158:36
 enum-known-qtype : tie.Need-enum-known-qtype
 enum-known-qtype c = search needs
 
--- src/lib.rt:158:56
 number-requires-2 : tie.Need-number-requires-2
 number-requires-2 c κs = search needs
 
--- src/lib.rt:159:40
 enum-known-qclass : tie.Need-enum-known-qclass
 enum-known-qclass c = search needs
 
--- src/lib.rt:166:42
 enum-told : tie.Need-enum-told
 enum-told c = search needs
 
--- src/lib.rt:168:38
 enum-told-2 : tie.Need-enum-told-2
 enum-told-2 c = search needs
 
--- src/lib.rt:170:30
 enum-told-3 : tie.Need-enum-told-3
 enum-told-3 c = search needs
 
--- src/lib.rt:152:5
 returns : tie.Need-returns
 returns c =
     let q = c .before in
@@ -61,7 +45,6 @@ returns c =
     (sym (t .before .before .number .ensures) ∙ t .qtype .given .1)
     (sym (q .before .before .number2 .ensures) ∙ q .qclass .given .1))
 
--- src/lib.rt:152:5
 returns-2 : tie.Need-returns-2
 returns-2 c =
     let t = c .before .before .before .before in
@@ -72,7 +55,6 @@ returns-2 c =
     (sym (t .before .before .number .ensures) ∙ t .qtype .given .1)
     (sym (c .before .before .number2 .ensures) ∙ c .enum-told .given .1))
 
--- src/lib.rt:152:5
 returns-3 : tie.Need-returns-3
 returns-3 c =
     let n = c .before .before .before .before in
@@ -81,7 +63,6 @@ returns-3 c =
     (sym (n .before .before .name .ensures) ∙ n .len .given .1)
     (sym (c .before .before .number .ensures) ∙ c .enum-told2 .given .1))
 
--- src/lib.rt:152:5
 returns-4 : tie.Need-returns-4
 returns-4 c =
     let a = c .before .before .before .before .args in

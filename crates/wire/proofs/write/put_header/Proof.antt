@@ -1,56 +1,41 @@
+-- The proof of `write::put_header`. Assumes nothing.
 use borrow.Author.Needs.{needs}
 use Rattle.wire.proofs.write.put_header.Statement.{statement}
 use Rattle.wire.proofs.write.put_header.Tie as tie
-use Rattle.wire.proofs.write.put_header.Reads as reads
-use Rattle.wire.proofs.write.put_header.Lts as lts
-use Rattle.octets.proofs.put16.Reads as put16-reads
-use Rattle.wire.proofs.write.put8.Reads as put8-reads
-use Prim.Native.Nat.{ℕ, _+_, _-_, _*_, _≤_, _<_}
+use Prim.Native.Nat.{_+_, _-_}
 use native.Mathlib.Omega.{arith}
-use mathlib.Core.Path.{_≡_, refl, sym, ap, _∙_}
-use mathlib.Core.List.{List, [], _∷_, map}
-use lib.ListN.{length}
+use mathlib.Core.List.{[], _∷_}
 use denote.Ref.{now}
 use Rattle.wire.specs.Write.{headerSent}
 use Rattle.model.proofs.NumberLaws.{writes-eq}
 
--- src/write.rt:23:5
 put16-requires : tie.Need-put16-requires
 put16-requires c κs = search needs
 
--- src/write.rt:24:20
 add-put8 : tie.Need-add-put8
 add-put8 c = search needs
 
--- src/write.rt:24:5
 put8-requires : tie.Need-put8-requires
 put8-requires c κs = search needs
 
--- src/write.rt:25:5
 put8-requires-2 : tie.Need-put8-requires-2
 put8-requires-2 c κs = search needs
 
--- src/write.rt:26:5
 put16-requires-2 : tie.Need-put16-requires-2
 put16-requires-2 c κs = search needs
 
--- src/write.rt:27:5
 put16-requires-3 : tie.Need-put16-requires-3
 put16-requires-3 c κs = search needs
 
--- src/write.rt:28:5
 put16-requires-4 : tie.Need-put16-requires-4
 put16-requires-4 c κs = search needs
 
--- src/write.rt:29:5
 put16-requires-5 : tie.Need-put16-requires-5
 put16-requires-5 c κs = search needs
 
--- src/write.rt:19:1
 same-length : tie.Need-same-length
 same-length c = search needs
 
--- src/write.rt:19:1
 returns : tie.Need-returns
 unfolding headerSent
 returns c =

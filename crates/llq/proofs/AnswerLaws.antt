@@ -1,0 +1,144 @@
+-- What the writers leave is the answer, and a call that answers meets the model. Assumes nothing.
+use Prim.Native.Nat.{ℕ, zero, suc, _+_, _-_, _*_, _≤_, _<_}
+use native.Mathlib.Omega.{arith}
+use mathlib.Core.Path.{_≡_, refl, sym, ap, _∙_}
+use mathlib.Core.Bool.{Bool, true, false, cond, _&&_, _||_}
+use mathlib.Core.List.{List, [], _∷_, _++_, append-nil}
+use lib.ListN.{length, drop}
+use lib.Dec.{eqb, leb, ltb}
+use Rattle.model.specs.Lists.{flat, upTo}
+use Rattle.model.specs.Numbers.{splice, bigEndian}
+use Rattle.model.specs.Clock.{cycle, validReading, placeOf, advance}
+use Rattle.model.specs.Query.{Question, LlqOption, qdcount, questionsEnd, matched, question, llqOption}
+use Rattle.model.specs.Table.{Table, tableBytes, readTable, sizeOf, slotsIn}
+use Rattle.model.specs.Sound.{Sound, soundBytes}
+use Rattle.model.specs.Serve.{Sender, Outcome, serveOption, movedOn, slotRunOut}
+use Rattle.model.specs.Reply.{optionBytes, replyBytes, replyLength, mismatch}
+use Rattle.model.specs.Calls.{MakeCall, ServeCall, tableLength, freedBy, freshTable}
+use Rattle.model.specs.Meets.{ServeMeets}
+use Rattle.model.proofs.ListLaws.{and-left, and-right, count-le, length-upTo}
+use Rattle.model.proofs.Meaning.{bytes-back, table-sound}
+use borrow.Author.Tests.{eqb-true}
+use Rattle.query.specs.declared.Query.{Query}
+use Rattle.query.specs.Whole.{Holds, queryRefusal}
+use Rattle.table.specs.Written.{Laid, Written}
+use Rattle.table.specs.Fresh.{fresh}
+use Rattle.llq.specs.Answer.{tableFrom, outcomeFrom, frontBytes, tableDone, outcomesDone, Answers}
+use Rattle.llq.proofs.ReplyLaws.{length-matched, length-mismatched, length-option, length-options, options-next, reply-written}
+use Rattle.llq.proofs.OrderLaws.{from-none, from-next, outcome-next, start, after-is, outcomes-is}
+use Rattle.llq.proofs.LadderLaws.{noRoom, serve-done}
+
+-- WHAT A SOUND TABLE GIVES
+
+pub laid-written : {b : List ℕ} {t : Table} → Written b t → Laid b
+laid-written w = ap tableBytes (w .read) ∙ sym (w .bytes)
+
+pub sound-laid : (b : List ℕ) → soundBytes b ≡ true → Laid b
+sound-laid = bytes-back
+
+pub sound-place : (b : List ℕ) → soundBytes b ≡ true → bigEndian b 1 4 < cycle
+unfolding readTable
+sound-place b h = table-sound b h .place
+
+-- a tick's count fits its field
+pub freed-few : (b : List ℕ) (p : ℕ) → soundBytes b ≡ true → freedBy (readTable b) p ≤ 64
+unfolding freedBy
+freed-few b p h =
+    let t = readTable b in
+    let few = count-le (t .slots) (slotRunOut (advance (t .clock) p .running)) in
+    omega (arith, few, table-sound b h .slotsMax)
+
+-- the length of a table that can be made
+pub length-right : (size : ℕ) → tableLength size ≡ true → size ≡ sizeOf (slotsIn size)
+unfolding tableLength
+length-right size h = eqb-true _ _ (and-right (leb 1 (slotsIn size) && leb (slotsIn size) 64) (eqb size (sizeOf (slotsIn size))) h)
+
+-- what making writes is the model's fresh table
+pub fresh-is : (c : MakeCall) (p n m : ℕ) → p ≡ placeOf (c .week) (c .second) → n ≡ m → tableBytes (fresh p (c .roster) n) ≡ tableBytes (freshTable c m)
+unfolding freshTable
+fresh-is c p n m e f = rw (e, f)
+
+-- ONE OPTION MORE
+
+module _ (s : Sender) (r : ℕ) (d b : List ℕ) where
+  pub written-none : Laid b → Written b (tableFrom s r d (readTable b) 0)
+  written-none laid =
+      record { bytes = sym laid ∙ ap tableBytes (sym (from-none s r d (readTable b))); read = sym (from-none s r d (readTable b)) }
+
+  module _ (i : ℕ) (u : List ℕ) (w : Written u (tableFrom s r d (readTable b) i)) (q : Question) (o : LlqOption) (f : q ≡ question d i) (g : o ≡ llqOption d i)
+    where
+      pub written-next : (v : List ℕ) → Written v (serveOption s r q o (readTable u) .table) → Written v (tableFrom s r d (readTable b) (i + 1))
+      written-next v x =
+          let e = from-next s r d (readTable b) i (readTable u) q o (w .read) f g in
+          record { bytes = x .bytes ∙ ap tableBytes e; read = x .read ∙ e }
+
+      pub reply-next : (at : ℕ) (lent x y : List ℕ)
+          → x ≡ splice at (22 * i) (flat optionBytes (upTo i (outcomeFrom s r d (readTable b)))) lent
+          → y ≡ splice (at + 22 * i) 22 (optionBytes (serveOption s r q o (readTable u) .outcome)) x → at + 22 * (i + 1) ≤ length lent
+          → y ≡ splice at (22 * (i + 1)) (flat optionBytes (upTo (i + 1) (outcomeFrom s r d (readTable b)))) lent
+      reply-next at lent x y h k l =
+          let e = outcome-next s r d (readTable b) i (readTable u) q o (w .read) f g in
+          k ∙ (ap (λ (z : Outcome). splice (at + 22 * i) 22 (optionBytes z) x) e
+          ∙ (ap (splice (at + 22 * i) 22 (optionBytes (outcomeFrom s r d (readTable b) i))) h
+          ∙ options-next (outcomeFrom s r d (readTable b)) at i lent l))
+
+-- THE ANSWER'S BYTES
+
+module _ (s : Sender) (r : ℕ) (d b lent : List ℕ) (q : Query) (h : Holds d q) (fits : replyLength d ≤ length lent) where
+  from : 12 ≤ questionsEnd d
+  from = omega (arith, h .end, h .from)
+
+  within : questionsEnd d ≤ length d
+  within = omega (arith, h .end, h .within)
+
+  pub answers-matched : (after left : List ℕ) → q .matched ≡ true → Written after (tableFrom s r d (readTable b) (q .count))
+      → left ≡ splice (q .end + 11) (22 * q .count) (flat optionBytes (upTo (q .count) (outcomeFrom s r d (readTable b))))
+      (splice 0 (q .end + 11) (frontBytes d (q .count)) lent)
+      → Answers s r d b after lent left
+  answers-matched after left e w l =
+      let m : matched d ≡ true = sym (h .matched) ∙ e in
+      let f = outcomeFrom s r d (readTable b) in
+      let size : questionsEnd d + 11 + 22 * qdcount d ≡ replyLength d = rw (h .end, h .count) at (length-matched d q h e) in
+      let k : q .count ≡ cond (matched d) (qdcount d) 0 = h .count ∙ sym (ap (λ (v : Bool). cond v (qdcount d) 0) m) in
+      let whole = reply-written d (upTo (qdcount d) f) (qdcount d) lent from within (length-upTo (qdcount d) f) (length-options (qdcount d) f) (omega (arith, size, fits)) in
+      let os : upTo (qdcount d) f ≡ outcomesDone s r d (readTable b) = sym (ap (λ (v : Bool). cond v (upTo (qdcount d) f) (mismatch ∷ [])) m) in
+      record {
+        table = w .bytes ∙ ap (λ (n : ℕ). tableBytes (tableFrom s r d (readTable b) n)) k;
+        reply =
+            (rw (h .end, h .count) at l)
+            ∙ (whole ∙ (ap (λ (n : ℕ). replyBytes d (upTo (qdcount d) f) ++ drop n lent) size ∙ ap (λ (x : List Outcome). replyBytes d x ++ drop (replyLength d) lent) os));
+      }
+
+  pub answers-mismatched : (left : List ℕ) → q .matched ≡ false → Laid b
+      → left ≡ splice (q .end + 11) 22 (optionBytes mismatch) (splice 0 (q .end + 11) (frontBytes d 1) lent) → Answers s r d b b lent left
+  unfolding tableFrom flat
+  answers-mismatched left e laid l =
+      let m : matched d ≡ false = sym (h .matched) ∙ e in
+      let f = outcomeFrom s r d (readTable b) in
+      let size : questionsEnd d + 11 + 22 * 1 ≡ replyLength d = omega (arith, h .end, length-mismatched d q h e) in
+      let one : flat optionBytes (mismatch ∷ []) ≡ optionBytes mismatch = append-nil (optionBytes mismatch) in
+      let whole = reply-written d (mismatch ∷ []) 1 lent from within refl (ap length one ∙ length-option mismatch) (omega (arith, size, fits)) in
+      let os : mismatch ∷ [] ≡ outcomesDone s r d (readTable b) = sym (ap (λ (v : Bool). cond v (upTo (qdcount d) f) (mismatch ∷ [])) m) in
+      let bytes : left ≡ splice (questionsEnd d + 11) (22 * 1) (flat optionBytes (mismatch ∷ [])) (splice 0 (questionsEnd d + 11) (frontBytes d 1) lent) =
+      rw one (rw (h .end) at l) in
+      record {
+        table = sym laid ∙ sym (ap (λ (v : Bool). tableBytes (tableFrom s r d (readTable b) (cond v (qdcount d) 0))) m);
+        reply = bytes ∙ (whole ∙ (ap (λ (n : ℕ). replyBytes d (mismatch ∷ []) ++ drop n lent) size ∙ ap (λ (x : List Outcome). replyBytes d x ++ drop (replyLength d) lent) os));
+      }
+
+-- THE ANSWERED CALL
+
+-- the clock moved and run-out entries freed, then the answer written
+pub serve-answered : (c : ServeCall) (b mid after reply left : List ℕ) (p k : ℕ) → soundBytes b ≡ true → validReading (c .week) (c .second) ≡ true
+    → queryRefusal (c .datagram) ≡ 0 → noRoom c b reply ≡ false → k ≡ replyLength (c .datagram) → p ≡ placeOf (c .week) (c .second)
+    → Written mid (movedOn (readTable b) p) → Answers (c .sender) (c .random) (c .datagram) mid after reply left → ServeMeets c b after reply left 0 k
+serve-answered c b mid after reply left p k e f g h l z w a =
+    let s = c .sender in
+    let r = c .random in
+    let d = c .datagram in
+    let t = readTable b in
+    let moved : readTable mid ≡ start c t = w .read ∙ ap (movedOn t) z in
+    serve-done c b reply after left k e f g h l (a .table ∙ (ap (λ (u : Table). tableBytes (tableDone s r d u)) moved ∙ ap tableBytes (sym (after-is c t))))
+    (a .reply
+    ∙ (ap (λ (u : Table). replyBytes d (outcomesDone s r d u) ++ drop (replyLength d) reply) moved
+    ∙ ap (λ (os : List Outcome). replyBytes d os ++ drop (replyLength d) reply) (sym (outcomes-is c t))))

@@ -1,0 +1,4 @@
+pub mod ReplyLaws
+pub mod OrderLaws
+pub mod LadderLaws
+pub mod AnswerLaws

@@ -1,0 +1,89 @@
+-- `llq::llq_make` meets its contract. Assumes nothing.
+use mathlib.Core.Path.{_≡_, sym, ap, _∙_}
+use native.Mathlib.Omega.{arith}
+use denote.Ref.{now}
+use Prim.Native.Nat.{ℕ}
+use mathlib.Core.Bool.{true}
+use lib.ListN.{length}
+use borrow.Author.Tests.{not-true, not-false}
+use Rattle.model.specs.Clock.{validReading}
+use Rattle.model.specs.Table.{slotsIn}
+use Rattle.model.specs.Calls.{tableLength, goodRoster}
+use Rattle.llq.proofs.LadderLaws as ladder
+use Rattle.llq.proofs.AnswerLaws.{length-right, fresh-is}
+use borrow.Author.Needs.{needs}
+use Rattle.llq.proofs.llq_make.Statement.{statement}
+use Rattle.llq.proofs.llq_make.Tie as tie
+use Rattle.llq.proofs.llq_make.Reads as reads
+use Rattle.llq.proofs.llq_make.Lts as lts
+use Rattle.clock.proofs.place.Reads as place-reads
+use Rattle.clock.proofs.valid.Reads as valid-reads
+use Rattle.entries.proofs.slots.Reads as slots-reads
+use Rattle.llq.proofs.table_length.Reads as table-length-reads
+use Rattle.sound.proofs.roster_sound.Reads as roster-sound-reads
+use Rattle.table.proofs.make_fresh.Reads as make-fresh-reads
+
+-- the tests that have passed: the length and the reading
+started : (c : tie.Else2) → (tableLength (length (c .before .before .before .before .before .before .before .args .t .now)) ≡ true) × (validReading (c .before .before .before .before .before .before .before .args .week) (c .before .before .before .before .before .before .before .args .second) ≡ true)
+started c = (sym (c .before .before .before .table-length .ensures) ∙ not-false _ (c .before .before .if1 .left), sym (c .before .valid .ensures) ∙ not-false _ (c .if2 .left))
+
+-- the roster's test, of the slots that the length gives
+roster-tested : (c : tie.After-roster-sound) → goodRoster (slotsIn (length (c .before .before .before .before .before .before .before .before .args .t .now))) (now (c .before .before .before .before .before .before .before .before .args .roster)) ≡ c .roster-sound .result
+roster-tested c = ap (λ (k : ℕ). goodRoster k (now (c .before .before .before .before .before .before .before .before .args .roster))) (sym (c .before .before .before .before .before .slots .ensures)) ∙ sym (c .roster-sound .ensures)
+
+slots-requires : tie.Need-slots-requires
+slots-requires c κs = search needs
+
+table-length-requires : tie.Need-table-length-requires
+table-length-requires c κs = search needs
+
+returns : tie.Need-returns
+returns c = ladder.make-length _ _ (sym (c .before .table-length .ensures) ∙ not-true _ (c .if1 .taken))
+
+valid-requires : tie.Need-valid-requires
+valid-requires c κs = search needs
+
+returns-2 : tie.Need-returns-2
+returns-2 c =
+    let e = sym (c .before .before .before .table-length .ensures) ∙ not-false _ (c .before .before .if1 .left) in
+    ladder.make-reading _ _ e (sym (c .before .valid .ensures) ∙ not-true _ (c .if2 .taken))
+
+roster-sound-requires : tie.Need-roster-sound-requires
+roster-sound-requires c κs = search needs
+
+returns-3 : tie.Need-returns-3
+returns-3 c =
+    let p = started (c .before .before) in ladder.make-roster _ _ (p .0) (p .1) (roster-tested (c .before) ∙ not-true _ (c .if3 .taken))
+
+place-requires : tie.Need-place-requires
+place-requires c κs = started (c .before .before .before) .1
+
+make-fresh-requires : tie.Need-make-fresh-requires
+make-fresh-requires c κs =
+    let right = length-right _ (started (c .before .before .before .before) .0) in
+    (omega (arith, right, c .before .before .before .before .before .before .before .before .slots .ensures), sym (c .before .before .before .roster-sound .ensures) ∙ not-false _ (c .before .before .if3 .left))
+
+same-length : tie.Need-same-length
+same-length c = search needs
+
+returns-4 : tie.Need-returns-4
+returns-4 c =
+    let p = started (c .before .before .before .before .before .before .before) in
+    let fresh = fresh-is _ _ _ _ (c .before .before .before .place .ensures .0) (c .before .before .before .before .before .before .before .before .before .before .before .slots .ensures) in
+    ladder.make-done _ _ _ (p .0) (p .1) (roster-tested (c .before .before .before .before .before .before) ∙ not-false _ (c .before .before .before .before .before .if3 .left)) (c .before .before .make-fresh .ensures ∙ fresh)
+
+pub llq-make-spec : {M : Type 1} → statement M
+llq-make-spec =
+    tie.close
+    (tie.spec
+    slots-requires
+    table-length-requires
+    returns
+    valid-requires
+    returns-2
+    roster-sound-requires
+    returns-3
+    place-requires
+    make-fresh-requires
+    same-length
+    returns-4)

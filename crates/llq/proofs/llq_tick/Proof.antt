@@ -1,0 +1,86 @@
+-- `llq::llq_tick` meets its contract. Assumes nothing.
+use mathlib.Core.Path.{_≡_, refl, sym, ap, _∙_}
+use native.Mathlib.Omega.{arith}
+use denote.Ref.{now}
+use mathlib.Core.Bool.{true}
+use borrow.Author.Tests.{not-true, not-false}
+use Rattle.model.specs.Clock.{validReading}
+use Rattle.model.specs.Sound.{soundBytes}
+use Rattle.model.specs.Table.{readTable, tableBytes}
+use Rattle.model.specs.Serve.{movedOn}
+use Rattle.model.specs.Calls.{freedBy}
+use Prim.Native.Nat.{ℕ}
+use Rattle.llq.proofs.LadderLaws as ladder
+use Rattle.llq.proofs.AnswerLaws.{sound-laid, sound-place, freed-few}
+use borrow.Author.Needs.{needs}
+use Rattle.llq.proofs.llq_tick.Statement.{statement}
+use Rattle.llq.proofs.llq_tick.Tie as tie
+use Rattle.llq.proofs.llq_tick.Reads as reads
+use Rattle.llq.proofs.llq_tick.Lts as lts
+use Rattle.clock.proofs.place.Reads as place-reads
+use Rattle.clock.proofs.valid.Reads as valid-reads
+use Rattle.sound.proofs.sound.Reads as sound-reads
+use Rattle.table.proofs.move_on.Reads as move-on-reads
+
+-- the tests that have passed: the table and the reading
+started : (c : tie.Else2) → (soundBytes (c .before .before .before .before .before .before .args .t .now) ≡ true) × (validReading (c .before .before .before .before .before .before .args .week) (c .before .before .before .before .before .before .args .second) ≡ true)
+started c = (sym (c .before .before .before .sound .ensures) ∙ not-false _ (c .before .before .if1 .left), sym (c .before .valid .ensures) ∙ not-false _ (c .if2 .left))
+
+sound-requires : tie.Need-sound-requires
+sound-requires c κs = search needs
+
+same-length : tie.Need-same-length
+same-length c = search needs
+
+returns : tie.Need-returns
+returns c = ladder.tick-unsound _ _ (sym (c .before .sound .ensures) ∙ not-true _ (c .if1 .taken))
+
+valid-requires : tie.Need-valid-requires
+valid-requires c κs = search needs
+
+same-length-2 : tie.Need-same-length-2
+same-length-2 c = search needs
+
+returns-2 : tie.Need-returns-2
+returns-2 c =
+    let e = sym (c .before .before .before .sound .ensures) ∙ not-false _ (c .before .before .if1 .left) in
+    ladder.tick-reading _ _ e (sym (c .before .valid .ensures) ∙ not-true _ (c .if2 .taken))
+
+place-requires : tie.Need-place-requires
+place-requires c κs = started (c .before) .1
+
+move-on-requires : tie.Need-move-on-requires
+move-on-requires c κs =
+    let b = c .before .before .before .before .before .before .before .before .args .t .now in
+    let e = started (c .before .before) .0 in (sound-laid b e, sound-place b e, c .place .ensures .1)
+
+cast-t11 : tie.Need-cast-t11
+cast-t11 c =
+    let few = freed-few (c .before .before .before .before .before .before .before .before .before .before .before .args .t .now) (c .before .before .before .place .result) (started (c .before .before .before .before .before) .0) in omega (arith, few, c .before .before .move-on .ensures .1)
+
+same-length-3 : tie.Need-same-length-3
+same-length-3 c = search needs
+
+returns-3 : tie.Need-returns-3
+returns-3 c =
+    let p = started (c .before .before .before .before .before) in
+    let t = readTable (c .before .before .before .before .before .before .before .before .before .before .before .args .t .now) in
+    let place = c .before .before .before .place .ensures .0 in
+    let m = c .before .before .move-on .ensures in
+    ladder.tick-done _ _ _ _ (p .0) (p .1) (m .0 .bytes ∙ ap (λ (k : ℕ). tableBytes (movedOn t k)) place) (m .1 ∙ ap (freedBy t) place)
+
+pub llq-tick-spec : {M : Type 1} → statement M
+llq-tick-spec =
+    tie.close
+    (tie.spec
+    sound-requires
+    same-length
+    returns
+    valid-requires
+    same-length-2
+    returns-2
+    place-requires
+    move-on-requires
+    cast-t11
+    same-length-3
+    returns-3)

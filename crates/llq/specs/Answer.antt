@@ -1,0 +1,41 @@
+-- What serving does once the clock is moved and run-out entries are free, from the table as it then stands. Assumes nothing.
+use Prim.Native.Nat.{ℕ, zero, suc}
+use mathlib.Core.Path.{_≡_}
+use mathlib.Core.Bool.{cond}
+use mathlib.Core.List.{List, [], _∷_, _++_}
+use lib.ListN.{drop}
+use Rattle.model.specs.Lists.{upTo}
+use Rattle.model.specs.Query.{qdcount, matched, question, llqOption}
+use Rattle.model.specs.Table.{Table, tableBytes, readTable}
+use Rattle.model.specs.Serve.{Sender, Outcome, serveOption}
+use Rattle.llq.specs.declared.Served.{Served}
+use Rattle.model.specs.Reply.{headerBytes, questionBytes, optBytes, replyBytes, replyLength, mismatch}
+
+-- the table after the first i options
+unfoldable pub tableFrom : Sender → ℕ → List ℕ → Table → ℕ → Table
+tableFrom s r d t zero = t
+tableFrom s r d t (suc i) = serveOption s r (question d i) (llqOption d i) (tableFrom s r d t i) .table
+
+-- what the reply says of option i
+unfoldable pub outcomeFrom : Sender → ℕ → List ℕ → Table → ℕ → Outcome
+outcomeFrom s r d t i = serveOption s r (question d i) (llqOption d i) (tableFrom s r d t i) .outcome
+
+-- the reply before its k options: header, questions, OPT record
+unfoldable pub frontBytes : List ℕ → ℕ → List ℕ
+frontBytes d k = headerBytes d ++ (questionBytes d ++ optBytes k)
+
+-- all options done; none where the count and length test fails
+abbrev pub tableDone : Sender → ℕ → List ℕ → Table → Table
+tableDone s r d t = tableFrom s r d t (cond (matched d) (qdcount d) 0)
+
+abbrev pub outcomesDone : Sender → ℕ → List ℕ → Table → List Outcome
+outcomesDone s r d t = cond (matched d) (upTo (qdcount d) (outcomeFrom s r d t)) (mismatch ∷ [])
+
+-- the bytes left in the table and in the reply buffer
+pub record Answers (s : Sender) (r : ℕ) (d before after lent left : List ℕ) : Type 0 where
+  pub table : after ≡ tableBytes (tableDone s r d (readTable before))
+  pub reply : left ≡ replyBytes d (outcomesDone s r d (readTable before)) ++ drop (replyLength d) lent
+
+-- a refused datagram has no reply
+abbrev pub refusedBy : ℕ → Served
+refusedBy k = record { number = k; length = 0 }

@@ -1,0 +1,222 @@
+// Document 01's three calls, for a host in C: making, ticking, serving. Every refusal is decided before the first byte is written.
+use entries::Sender;
+use query::Query;
+use wire::LlqNumber;
+use wire::LlqOption;
+use wire::Question;
+ghost use mathlib.Core.Path.{_≡_};
+ghost use mathlib.Core.Bool.{true, false, not};
+ghost use Prim.Native.Nat.{_+_, _-_, _*_, _^_, _<_, _≤_};
+ghost use lib.ListN.{length};
+ghost use Rattle.model.specs.Lists.{flat, upTo};
+ghost use Rattle.model.specs.Numbers.{splice};
+ghost use Rattle.model.specs.Clock.{cycle, placeOf};
+ghost use Rattle.model.specs.Table.{readTable, slotsIn};
+ghost use Rattle.model.specs.Serve.{serveOption};
+ghost use Rattle.model.specs.Reply.{optionBytes, replyBytes, replyLength};
+ghost use Rattle.model.specs.Calls.{tableLength, tableAfter, outcomes};
+ghost use Rattle.model.specs.Meets.{MakeMeets, TickMeets, ServeMeets};
+ghost use Rattle.wire.specs.Records.{questionOf, optionOf};
+ghost use Rattle.query.specs.Whole.{Holds};
+ghost use Rattle.entries.specs.Reads.{addressOf, senderOf};
+ghost use Rattle.table.specs.Written.{Laid, Written};
+ghost use Rattle.llq.specs.Answer.{tableFrom, outcomeFrom, frontBytes, Answers, refusedBy};
+
+// A datagram's answer: the refusal's number and 0, or 0 and the reply's length.
+#[repr(C)]
+pub struct Served {
+    pub number: u32,
+    pub length: u32,
+}
+
+// A tick's answer: the refusal's number and 0, or 0 and how many entries were freed.
+#[repr(C)]
+pub struct Ticked {
+    pub number: u32,
+    pub freed: u32,
+}
+
+// MAKING
+
+// The length is that of a table of 1 to 64 slots.
+fn table_length(size: usize, n: usize) -> bool
+    requires { ⌜ n ≡ slotsIn size ⌝ }
+    ensures { λ r. ⌜ r ≡ tableLength size ⌝ }
+{
+    if n < 1 {
+        return false;
+    }
+    if n > 64 {
+        return false;
+    }
+    size == 313 + 320 * n
+}
+
+#[no_mangle]
+pub extern "C" fn llq_make(week: u32, second: u32, t: &mut [u8], roster: &[u8]) -> u32
+    ensures { λ r. ⌜ MakeMeets (record { week = week; second = second; roster = now (roster .entry) }) (now (t .entry)) (now (t .exit)) r ⌝ }
+{
+    let n = entries::slots(t.len());
+    if !table_length(t.len(), n) {
+        return 1;
+    }
+    if !clock::valid(week, second) {
+        return 2;
+    }
+    if !sound::roster_sound(roster, n) {
+        return 9;
+    }
+    table::make_fresh(t, n, clock::place(week, second), roster);
+    0
+}
+
+// TICKING
+
+#[no_mangle]
+pub extern "C" fn llq_tick(week: u32, second: u32, t: &mut [u8]) -> Ticked
+    ensures { λ r. ⌜ TickMeets (record { week = week; second = second }) (now (t .entry)) (now (t .exit)) (r .number) (r .freed) ⌝ }
+{
+    if !sound::sound(t) {
+        return Ticked {
+            number: 1,
+            freed: 0,
+        };
+    }
+    if !clock::valid(week, second) {
+        return Ticked {
+            number: 2,
+            freed: 0,
+        };
+    }
+    let freed = table::move_on(t, clock::place(week, second));
+    Ticked {
+        number: 0,
+        freed: freed as u32,
+    }
+}
+
+// SERVING
+
+// 12 + questions + 11 + 22 for each option: one where the count and length test fails.
+fn reply_length(d: &[u8], q: Query) -> usize
+    requires { ⌜ Holds (now d) q ⌝ }
+    ensures { λ r. ⌜ r ≡ replyLength (now (d .entry)) ⌝ }
+{
+    if !q.matched {
+        return q.end + 33;
+    }
+    q.end + 11 + 22 * q.count
+}
+
+// A refused datagram has no reply.
+fn refuse(number: u32) -> Served
+    ensures { λ r. ⌜ r ≡ refusedBy number ⌝ }
+{
+    Served { number, length: 0 }
+}
+
+// An option served on the table as it stands, and written at its place in the reply.
+fn serve_one(
+    t: &mut [u8],
+    reply: &mut [u8],
+    at: usize,
+    s: Sender,
+    r: u64,
+    q: Question,
+    o: LlqOption,
+)
+    requires { ⌜ Laid (now t) × (q .len ≤ 255) × (at + 22 ≤ length (now reply)) ⌝ }
+    ensures { λ _. ⌜ Written (now (t .exit)) (serveOption (senderOf s) r (questionOf q) (optionOf o) (readTable (now (t .entry))) .table) × (now (reply .exit) ≡ splice at 22 (optionBytes (serveOption (senderOf s) r (questionOf q) (optionOf o) (readTable (now (t .entry))) .outcome)) (now (reply .entry))) ⌝ }
+{
+    let x = options::serve_option(t, s, r, q, o);
+    let y = x.outcome;
+    let number = options::number_of(x);
+    let error = options::error_of(y);
+    let lease = options::lease_of(y);
+    wire::write::put_option(reply, at, x.opcode, error, number, lease);
+}
+
+// The options in order, each on its question and on the table that those before it left.
+fn serve_each(t: &mut [u8], reply: &mut [u8], d: &[u8], s: Sender, r: u64, q: Query)
+    requires { ⌜ Laid (now t) × Holds (now d) q × (q .matched ≡ true) × (q .end + 11 + 22 * q .count ≤ length (now reply)) ⌝ }
+    ensures { λ _. ⌜ Written (now (t .exit)) (tableFrom (senderOf s) r (now (d .entry)) (readTable (now (t .entry))) (q .count)) × (now (reply .exit) ≡ splice (q .end + 11) (22 * q .count) (flat optionBytes (upTo (q .count) (outcomeFrom (senderOf s) r (now (d .entry)) (readTable (now (t .entry)))))) (now (reply .entry))) ⌝ }
+{
+    let questions = q.questions;
+    let options = q.options;
+    let at = q.end + 11;
+    let n = q.count;
+    let mut i: usize = 0;
+    while i < n {
+        serve_one(t, reply, at + 22 * i, s, r, questions[i], options[i]);
+        i += 1;
+    }
+}
+
+// The header, the questions as received, and the OPT record of k options.
+fn put_front(reply: &mut [u8], d: &[u8], q: Query, k: u16)
+    requires { ⌜ Holds (now d) q × (k ≤ 8) × (q .end + 11 ≤ length (now reply)) ⌝ }
+    ensures { λ _. ⌜ now (reply .exit) ≡ splice 0 (q .end + 11) (frontBytes (now (d .entry)) k) (now (reply .entry)) ⌝ }
+{
+    let end = q.end;
+    let count = q.count;
+    wire::write::put_header(reply, q.number, q.desired, count as u16);
+    octets::copy(reply, 12, d, 12, end - 12);
+    wire::write::put_opt(reply, end, k);
+}
+
+// As many options as questions: each is served. Otherwise none is, and the reply has one: opcode 1, error 3, number 0, lease 0.
+fn answer(t: &mut [u8], reply: &mut [u8], d: &[u8], s: Sender, r: u64, q: Query)
+    requires { ⌜ Laid (now t) × Holds (now d) q × (replyLength (now d) ≤ length (now reply)) ⌝ }
+    ensures { λ _. ⌜ Answers (senderOf s) r (now (d .entry)) (now (t .entry)) (now (t .exit)) (now (reply .entry)) (now (reply .exit)) ⌝ }
+{
+    if q.matched {
+        let count = q.count;
+        put_front(reply, d, q, count as u16);
+        serve_each(t, reply, d, s, r, q);
+    } else {
+        put_front(reply, d, q, 1);
+        wire::write::put_option(reply, q.end + 11, 1, 3, LlqNumber(0), 0);
+    }
+}
+
+#[no_mangle]
+pub extern "C" fn llq_serve(
+    week: u32,
+    second: u32,
+    high: u64,
+    low: u64,
+    port: u16,
+    random: u64,
+    datagram: &[u8],
+    t: &mut [u8],
+    reply: &mut [u8],
+) -> Served
+    ensures { λ r. ⌜ ServeMeets (record { week = week; second = second; sender = record { address = high * 2 ^ 64 + low; port = port }; random = random; datagram = now (datagram .entry); room = length (now (reply .entry)) }) (now (t .entry)) (now (t .exit)) (now (reply .entry)) (now (reply .exit)) (r .number) (r .length) ⌝ }
+{
+    if !sound::sound(t) {
+        return refuse(1);
+    }
+    if !clock::valid(week, second) {
+        return refuse(2);
+    }
+    let p = query::parse(datagram);
+    let refused = p.refused;
+    if refused != 0 {
+        return refuse(refused);
+    }
+    let q = p.query;
+    let len = reply_length(datagram, q);
+    if len > reply.len() {
+        return refuse(8);
+    }
+    if len > 1472 {
+        return refuse(8);
+    }
+    let s = Sender { high, low, port };
+    table::move_on(t, clock::place(week, second));
+    answer(t, reply, datagram, s, random, q);
+    Served {
+        number: 0,
+        length: len as u32,
+    }
+}

@@ -1,0 +1,309 @@
+-- Laws for one option served: one for each way out of setup, response and refresh. Assumes nothing.
+use Prim.Native.Nat.{ℕ, zero, suc, _+_, _-_, _*_, _^_, _≤_, _<_}
+use native.Mathlib.Nat.{lt-of-lt-of-le, mul-le-mul-right}
+use native.Mathlib.Omega.{arith}
+use mathlib.Core.Path.{_≡_, refl, sym, ap, _∙_, subst}
+use mathlib.Core.Bool.{Bool, true, false, cond, true≢false}
+use mathlib.Core.Logic.{_⊎_, inl, inr, _≢_}
+use borrow.Author.Tests.{eq-eqb, ne-eqb}
+use mathlib.Core.List.{List, [], _∷_}
+use lib.ListN.{length, getD, set, take, drop}
+use lib.Seq.{set-out}
+use Rattle.model.specs.Lists.{count, indexOf}
+use Rattle.model.specs.Numbers.{Bytes, bigEndian, bytesOf, splice, encode}
+use Rattle.model.specs.Clock.{ageAt}
+use Rattle.model.specs.Query as query
+use Rattle.model.specs.Table as table
+use Rattle.model.specs.Table.{Slot, free, held, Table, slotAt, slotsIn, sizeOf, readTable, readSlot, readEntry, slotBytes}
+use Rattle.model.specs.Rules.{Holding, holdings, asks, full, grantedLease, freshNumber}
+use Rattle.model.specs.Sound.{FitsEntry}
+use Rattle.model.specs.Serve as serve
+use Rattle.model.specs.Serve.{has, isFree, findEntry, slotOf, withSlot, newEntry, granted, challenge, onSetup, serveSetup, answers, establish, onResponse, serveResponse, refreshes, renew, onRefresh, serveRefresh, ended, serveKind, serveOption, kindOfOption}
+use Rattle.model.proofs.NumberLaws.{big-lt}
+use Rattle.model.proofs.ListLaws.{index-le, index-hit, getD-past}
+use Rattle.model.proofs.Meaning.{fits-entry}
+use Rattle.layout.specs.Shape.{inUse}
+use Rattle.layout.proofs.ReadLaws.{running-read, slot-read, read-held}
+use Rattle.entries.specs.declared.Sender.{Sender}
+use Rattle.entries.specs.declared.Entry.{Entry}
+use Rattle.entries.specs.declared.State.the-variants.{Pending}
+use Rattle.entries.specs.Reads.{addressOf, senderOf, asked, entryAt}
+use Rattle.entries.proofs.Laws.{slots-count, has-out}
+use Rattle.wire.specs.declared.LlqNumber.{LlqNumber}
+use Rattle.wire.specs.declared.LlqOption.{LlqOption}
+use Rattle.wire.specs.Records.{optionOf}
+use Rattle.table.specs.Written.{Laid, Written}
+use Rattle.table.specs.Stored.{entryBytes, storedAs}
+use Rattle.table.proofs.WriteLaws.{unwritten, slot-written, establish-bytes, renew-bytes}
+use Rattle.table.proofs.EntryLaws.{pending-bytes}
+use Rattle.options.specs.declared.Outcome.the-variants as out
+use Rattle.options.specs.declared.ServedOption.{ServedOption}
+use Rattle.options.specs.Outcomes.{outcomeOf, servedWith, ServedAs}
+
+-- an address of two halves fits its field
+pub address-fits : (high low : ℕ) → high < 2 ^ 64 → low < 2 ^ 64 → addressOf high low < 256 ^ 16
+address-fits high low h l =
+    let a : high * 2 ^ 64 + low < suc high * 2 ^ 64 = omega arith in
+    lt-of-lt-of-le a (mul-le-mul-right (2 ^ 64) h)
+
+-- the same by equal steps
+pub served-by : {p q : serve.Served} {b : List ℕ} {x : ServedOption} → p ≡ q → ServedAs q b x → ServedAs p b x
+served-by {b = b} {x = x} e = subst (λ (z : serve.Served). ServedAs z b x) (sym e)
+
+module _ (b : List ℕ) (bytes : Bytes b) (laid : Laid b) (n : ℕ) (size : length b ≡ sizeOf n) where
+  inside : {i : ℕ} → i < n → i < slotsIn (length b)
+  inside l = omega arith
+
+  -- WHAT WAS FOUND
+
+  module _ (p : Holding → Bool) {i : ℕ} (e : i ≡ findEntry p (readTable b)) where
+    at-slot : (j : ℕ) → j < n → slotOf (readTable b) j ≡ readSlot b (slotAt j)
+    at-slot j l = slot-read b j free (inside l)
+
+    used : (v : Bool) → inUse (getD b (slotAt i) 0) ≡ v → has (readTable b .clock .running) p (readSlot b (slotAt i)) ≡ true → inUse (getD b (slotAt i) 0) ≡ true
+    used true h t = h
+    used false h t = absurd (true≢false (sym t ∙ has-out (readTable b .clock .running) p b (slotAt i) h))
+
+    pub found-held : i < n → readSlot b (slotAt i) ≡ held (readEntry b (slotAt i))
+    unfolding findEntry
+    found-held l =
+        let q = has (readTable b .clock .running) p in
+        let k : indexOf q (readTable b .slots) < length (readTable b .slots) = rw (slots-count b n size, ← e) l in
+        let t : q (slotOf (readTable b) i) ≡ true = rw (← e) at (index-hit q (readTable b .slots) free k) in
+        read-held b (slotAt i) (used (inUse (getD b (slotAt i) 0)) refl (ap q (sym (at-slot i l)) ∙ t))
+
+    pub found-slot : i < n → slotOf (readTable b) (findEntry p (readTable b)) ≡ held (readEntry b (slotAt i))
+    found-slot l = ap (slotOf (readTable b)) (sym e) ∙ at-slot i l ∙ found-held l
+
+    pub lost-slot : n ≤ i → slotOf (readTable b) (findEntry p (readTable b)) ≡ free
+    lost-slot l = ap (slotOf (readTable b)) (sym e) ∙ getD-past (readTable b .slots) i free (rw (slots-count b n size) l)
+
+  -- GRANTED
+
+  module _ (s : Sender) (r : ℕ) (name : List ℕ) (qtype qclass : ℕ) (o : LlqOption) where
+    abbrev q : query.Question
+    q = asked name qtype qclass
+
+    abbrev new : table.Entry
+    new = newEntry (senderOf s) r q (optionOf o) (readTable b)
+
+    abbrev grants : serve.Served
+    grants = granted (senderOf s) r q (optionOf o) (readTable b)
+
+    module _ {number lease i : ℕ} (ns : number ≡ freshNumber (n + 2) (count (holdings (readTable b))) r) (ls : lease ≡ grantedLease (o .lease))
+        (is : i ≡ indexOf isFree (readTable b .slots)) where
+      number-is : number ≡ new .number
+      number-is = ns ∙ ap (λ (k : ℕ). freshNumber (k + 2) (count (holdings (readTable b))) r) (sym (slots-count b n size))
+
+      told : (x : ServedOption) → x ≡ servedWith o (out.Challenge (record { 0 = number }) lease) → outcomeOf x ≡ grants .outcome
+      told x e = ap outcomeOf e ∙ rw (number-is, ls)
+
+      pub grant-none : n ≤ i → (x : ServedOption) → x ≡ servedWith o (out.Challenge (record { 0 = number }) lease) → ServedAs grants b x
+      grant-none l x e =
+          let stays : set (readTable b .slots) (indexOf isFree (readTable b .slots)) (held new) ≡ readTable b .slots =
+          set-out (readTable b .slots) (indexOf isFree (readTable b .slots)) (held new) (rw (slots-count b n size, ← is) l) in
+          record {
+            table = subst (Written b) (sym (ap (serve.withSlots (readTable b)) stays)) (unwritten b laid);
+            outcome = told x e;
+          }
+
+      module _ (stamp len : ℕ) (ss : stamp ≡ bigEndian b 5 4) where
+        abbrev made : Entry
+        made =
+            record {
+              state = Pending;
+              high = s .high;
+              low = s .low;
+              port = s .port;
+              number = record { 0 = number };
+              lease = lease;
+              stamp = stamp;
+              qtype = qtype;
+              qclass = qclass;
+              len = len;
+            }
+
+        new-is : storedAs false made name ≡ new
+        new-is = rw (number-is, ls, ss ∙ sym (running-read b))
+
+        pub grant-written : i < n → FitsEntry (storedAs false made name) → (y : List ℕ) → y ≡ splice (slotAt i) 320 (entryBytes made name) b
+            → (x : ServedOption) → x ≡ servedWith o (out.Challenge (record { 0 = number }) lease) → ServedAs grants y x
+        grant-written l f y w x e =
+            let v : y ≡ splice (slotAt i) 320 (slotBytes (held new)) b =
+            w ∙ ap (λ (z : List ℕ). splice (slotAt i) 320 z b) (pending-bytes made name refl ∙ ap (λ (z : table.Entry). slotBytes (held z)) new-is) in
+            record {
+              table =
+                  subst (λ (k : ℕ). Written y (withSlot (readTable b) k (held new))) is
+                  (slot-written b bytes laid i (held new) (inside l) (subst FitsEntry new-is f) y v);
+              outcome = told x e;
+            }
+
+    -- SETUP
+
+    module _ {i : ℕ} (is : i ≡ findEntry (asks (senderOf s .address) (s .port) q) (readTable b)) where
+      pub setup-found : i < n → (e : Entry) → e ≡ entryAt b (slotAt i) → (x : ServedOption) → x ≡ servedWith o (out.Challenge (e .number) (e .lease))
+          → ServedAs (serveSetup (senderOf s) r q (optionOf o) (readTable b)) b x
+      unfolding serveSetup onSetup entryAt readEntry
+      setup-found l e h x g =
+          served-by (ap (onSetup (senderOf s) r q (optionOf o) (readTable b)) (found-slot (asks (senderOf s .address) (s .port) q) is l))
+          (record { table = unwritten b laid; outcome = ap outcomeOf g ∙ rw h })
+
+      lost : n ≤ i → serveSetup (senderOf s) r q (optionOf o) (readTable b)
+          ≡ cond (full n (readTable b .roster) (count (holdings (readTable b))) (senderOf s .address))
+          (record { table = readTable b; outcome = serve.retryLater (optionOf o) }) grants
+      unfolding serveSetup onSetup
+      lost l =
+          ap (onSetup (senderOf s) r q (optionOf o) (readTable b)) (lost-slot (asks (senderOf s .address) (s .port) q) is l)
+          ∙ ap (λ (k : ℕ). cond (full k (readTable b .roster) (count (holdings (readTable b))) (senderOf s .address))
+          (record { table = readTable b; outcome = serve.retryLater (optionOf o) }) grants) (slots-count b n size)
+
+      pub setup-full : n ≤ i → full n (readTable b .roster) (count (holdings (readTable b))) (senderOf s .address) ≡ true → (x : ServedOption)
+          → x ≡ servedWith o out.Full → ServedAs (serveSetup (senderOf s) r q (optionOf o) (readTable b)) b x
+      setup-full l f x g = served-by (lost l ∙ rw f) (record { table = unwritten b laid; outcome = ap outcomeOf g })
+
+      pub setup-grant : n ≤ i → full n (readTable b .roster) (count (holdings (readTable b))) (senderOf s .address) ≡ false → (y : List ℕ) (x : ServedOption)
+          → ServedAs grants y x → ServedAs (serveSetup (senderOf s) r q (optionOf o) (readTable b)) y x
+      setup-grant l f y x g = served-by (lost l ∙ rw f) g
+
+    -- RESPONSE
+
+    module _ {i : ℕ} (is : i ≡ findEntry (answers (senderOf s) q (optionOf o)) (readTable b)) where
+      pub response-none : n ≤ i → (x : ServedOption) → x ≡ servedWith o (out.NoSuchLlq (record { 0 = 0 }))
+          → ServedAs (serveResponse (senderOf s) q (optionOf o) (readTable b)) b x
+      unfolding serveResponse onResponse
+      response-none l x g =
+          served-by (ap (onResponse (optionOf o) (readTable b) (findEntry (answers (senderOf s) q (optionOf o)) (readTable b)))
+          (lost-slot (answers (senderOf s) q (optionOf o)) is l)) (record { table = unwritten b laid; outcome = ap outcomeOf g })
+
+      pub response-found : i < n → (e : Entry) → e ≡ entryAt b (slotAt i) → (left : ℕ) → left ≡ e .lease - ageAt (bigEndian b 5 4) (e .stamp) → (y : List ℕ)
+          → y ≡ splice (slotAt i) 1 (bytesOf 1 6) b → (x : ServedOption) → x ≡ servedWith o (out.Established (e .number) left)
+          → ServedAs (serveResponse (senderOf s) q (optionOf o) (readTable b)) y x
+      unfolding serveResponse onResponse entryAt readEntry
+      response-found l e h left k y w x g =
+          let p = answers (senderOf s) q (optionOf o) in
+          let d = readEntry b (slotAt i) in
+          let f = fits-entry b bytes (slotAt i) in
+          let v = w ∙ establish-bytes b bytes laid i (inside l) d (found-held p is l) in
+          let g′ : FitsEntry (establish d) =
+          record {
+            address = f .address;
+            port = f .port;
+            number = f .number;
+            lease = f .lease;
+            stamp = f .stamp;
+            qtype = f .qtype;
+            qclass = f .qclass;
+            size = f .size;
+            bytes = f .bytes;
+          } in
+          served-by (ap (onResponse (optionOf o) (readTable b) (findEntry p (readTable b))) (found-slot p is l))
+          (record {
+            table = subst (λ (j : ℕ). Written y (withSlot (readTable b) j (held (establish d)))) is
+                (slot-written b bytes laid i (held (establish d)) (inside l) g′ y v);
+            outcome = ap outcomeOf g ∙ rw (k, h, running-read b);
+          })
+
+    -- REFRESH
+
+    module _ {i : ℕ} (is : i ≡ findEntry (refreshes (senderOf s) q (optionOf o)) (readTable b)) where
+      pub refresh-none : n ≤ i → (x : ServedOption) → x ≡ servedWith o (out.NoSuchLlq (o .number))
+          → ServedAs (serveRefresh (senderOf s) q (optionOf o) (readTable b)) b x
+      unfolding serveRefresh onRefresh
+      refresh-none l x g =
+          served-by (ap (onRefresh (optionOf o) (readTable b) (findEntry (refreshes (senderOf s) q (optionOf o)) (readTable b)))
+          (lost-slot (refreshes (senderOf s) q (optionOf o)) is l)) (record { table = unwritten b laid; outcome = ap outcomeOf g })
+
+      module _ (l : i < n) (e : Entry) (h : e ≡ entryAt b (slotAt i)) where
+        abbrev d : table.Entry
+        d = readEntry b (slotAt i)
+
+        refreshed : serveRefresh (senderOf s) q (optionOf o) (readTable b)
+            ≡ onRefresh (optionOf o) (readTable b) (findEntry (refreshes (senderOf s) q (optionOf o)) (readTable b)) (held d)
+        unfolding serveRefresh
+        refreshed =
+            ap (onRefresh (optionOf o) (readTable b) (findEntry (refreshes (senderOf s) q (optionOf o)) (readTable b)))
+            (found-slot (refreshes (senderOf s) q (optionOf o)) is l)
+
+        on-end : o .lease ≡ 0 → (j : ℕ) → onRefresh (optionOf o) (readTable b) j (held d)
+            ≡ record { table = withSlot (readTable b) j ended; outcome = record { opcode = o .opcode; error = 0; number = d .number; lease = 0 } }
+        unfolding onRefresh
+        on-end z j = rw (eq-eqb (o .lease) 0 z)
+
+        on-renew : o .lease ≢ 0 → (j : ℕ) → onRefresh (optionOf o) (readTable b) j (held d)
+            ≡ record {
+              table = withSlot (readTable b) j (held (renew (readTable b .clock .running) (o .lease) d));
+              outcome = record { opcode = o .opcode; error = 0; number = d .number; lease = grantedLease (o .lease) };
+            }
+        unfolding onRefresh
+        on-renew z j = rw (ne-eqb (o .lease) 0 z)
+
+        pub refresh-end : o .lease ≡ 0 → (y : List ℕ) → y ≡ splice (slotAt i) 320 (slotBytes ended) b → (x : ServedOption)
+            → x ≡ servedWith o (out.Ended (e .number)) → ServedAs (serveRefresh (senderOf s) q (optionOf o) (readTable b)) y x
+        unfolding entryAt readEntry
+        refresh-end z y w x g =
+            served-by (refreshed ∙ on-end z _)
+            (record {
+              table = subst (λ (j : ℕ). Written y (withSlot (readTable b) j ended)) is (slot-written b bytes laid i ended (inside l) tt y w);
+              outcome = ap outcomeOf g ∙ rw h;
+            })
+
+        pub refresh-renew : o .lease ≢ 0 → (lease running : ℕ) → lease ≡ grantedLease (o .lease) → lease < 2 ^ 32 → running ≡ bigEndian b 5 4 → (y : List ℕ)
+            → y ≡ splice (slotAt i + 27) 8 (encode ((4, lease) ∷ (4, running) ∷ [])) b → (x : ServedOption)
+            → x ≡ servedWith o (out.Renewed (e .number) lease) → ServedAs (serveRefresh (senderOf s) q (optionOf o) (readTable b)) y x
+        unfolding entryAt readEntry
+        refresh-renew z lease running k small r y w x g =
+            let p = refreshes (senderOf s) q (optionOf o) in
+            let rr : running ≡ readTable b .clock .running = r ∙ sym (running-read b) in
+            let c = renew running (o .lease) d in
+            let f = fits-entry b bytes (slotAt i) in
+            let v = w ∙ renew-bytes b bytes laid i (inside l) d (found-held p is l) running (o .lease) lease k in
+            let a : running < 256 ^ 4 = rw r (big-lt b 5 4 bytes) in
+            let fits : FitsEntry c =
+            record {
+              address = f .address;
+              port = f .port;
+              number = f .number;
+              lease = subst (λ (j : ℕ). j < 256 ^ 4) k small;
+              stamp = a;
+              qtype = f .qtype;
+              qclass = f .qclass;
+              size = f .size;
+              bytes = f .bytes;
+            } in
+            let w′ : Written y (withSlot (readTable b) i (held (renew (readTable b .clock .running) (o .lease) d))) =
+            subst (λ (j : ℕ). Written y (withSlot (readTable b) i (held (renew j (o .lease) d)))) rr (slot-written b bytes laid i (held c) (inside l) fits y v) in
+            served-by (refreshed ∙ on-renew z _)
+            (record {
+              table = subst (λ (j : ℕ). Written y (withSlot (readTable b) j (held (renew (readTable b .clock .running) (o .lease) d)))) is w′;
+              outcome = ap outcomeOf g ∙ rw (h, k);
+            })
+
+-- ONE OPTION, BY ITS KIND
+
+module _ (s : serve.Sender) (r : ℕ) (q : query.Question) (o : LlqOption) (t : Table) (k : serve.Kind) (e : k ≡ kindOfOption (optionOf o)) where
+  pub by-kind : serveOption s r q (optionOf o) t ≡ serveKind k s r q (optionOf o) t
+  by-kind = ap (λ (z : serve.Kind). serveKind z s r q (optionOf o) t) (sym e)
+
+pub malformed-as : (s : serve.Sender) (r : ℕ) (q : query.Question) (o : LlqOption) (b : List ℕ) → Laid b → (x : ServedOption)
+    → ((serve.badVersion ≡ kindOfOption (optionOf o)) × (x ≡ servedWith o out.BadVersion)) ⊎ ((serve.badFormat ≡ kindOfOption (optionOf o)) × (x ≡ servedWith o out.BadFormat))
+    → ServedAs (serveOption s r q (optionOf o) (readTable b)) b x
+unfolding serveKind
+malformed-as s r q o b laid x (inl h) =
+    served-by (by-kind s r q o (readTable b) serve.badVersion (h .0)) (record { table = unwritten b laid; outcome = ap outcomeOf (h .1) })
+malformed-as s r q o b laid x (inr h) =
+    served-by (by-kind s r q o (readTable b) serve.badFormat (h .0)) (record { table = unwritten b laid; outcome = ap outcomeOf (h .1) })
+
+pub setup-as : (s : serve.Sender) (r : ℕ) (q : query.Question) (o : LlqOption) (b y : List ℕ) (x : ServedOption) → serve.setup ≡ kindOfOption (optionOf o)
+    → ServedAs (serveSetup s r q (optionOf o) (readTable b)) y x → ServedAs (serveOption s r q (optionOf o) (readTable b)) y x
+unfolding serveKind
+setup-as s r q o b y x e = served-by (by-kind s r q o (readTable b) serve.setup e)
+
+pub response-as : (s : serve.Sender) (r : ℕ) (q : query.Question) (o : LlqOption) (b y : List ℕ) (x : ServedOption) → serve.response ≡ kindOfOption (optionOf o)
+    → ServedAs (serveResponse s q (optionOf o) (readTable b)) y x → ServedAs (serveOption s r q (optionOf o) (readTable b)) y x
+unfolding serveKind
+response-as s r q o b y x e = served-by (by-kind s r q o (readTable b) serve.response e)
+
+pub refresh-as : (s : serve.Sender) (r : ℕ) (q : query.Question) (o : LlqOption) (b y : List ℕ) (x : ServedOption) → serve.refresh ≡ kindOfOption (optionOf o)
+    → ServedAs (serveRefresh s q (optionOf o) (readTable b)) y x → ServedAs (serveOption s r q (optionOf o) (readTable b)) y x
+unfolding serveKind
+refresh-as s r q o b y x e = served-by (by-kind s r q o (readTable b) serve.refresh e)

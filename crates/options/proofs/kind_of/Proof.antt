@@ -1,0 +1,39 @@
+-- `options::kind_of` meets its contract. Assumes nothing.
+use mathlib.Core.Bool.{or-true}
+use borrow.Author.Tests.{eq-eqb, ne-eqb}
+use Rattle.model.specs.Serve.{kindOfOption}
+use Rattle.options.proofs.kind_of.Statement.{statement}
+use Rattle.options.proofs.kind_of.Tie as tie
+use Rattle.options.proofs.kind_of.Reads as reads
+use Rattle.options.proofs.kind_of.Lts as lts
+
+returns : tie.Need-returns
+unfolding kindOfOption
+returns c = rw (ne-eqb _ _ (c .if1 .taken))
+
+returns-2 : tie.Need-returns-2
+unfolding kindOfOption
+returns-2 c = rw (eq-eqb _ _ (c .before .before .if1 .left), ne-eqb _ _ (c .if2 .taken), or-true)
+
+returns-3 : tie.Need-returns-3
+unfolding kindOfOption
+returns-3 c =
+    rw (eq-eqb _ _ (c .before .before .before .before .if1 .left), eq-eqb _ _ (c .before .before .if2 .left), eq-eqb _ _ (c .if3 .taken), or-true)
+
+returns-4 : tie.Need-returns-4
+unfolding kindOfOption
+returns-4 c =
+    rw (eq-eqb _ _ (c .before .before .before .before .before .before .if1 .left), eq-eqb _ _ (c .before .before .before .before .if2 .left), ne-eqb _ _ (c .before .before .if3 .left), ne-eqb _ _ (c .if4 .taken))
+
+returns-5 : tie.Need-returns-5
+unfolding kindOfOption
+returns-5 c =
+    rw (eq-eqb _ _ (c .before .before .before .before .before .before .before .before .if1 .left), eq-eqb _ _ (c .before .before .before .before .before .before .if2 .left), ne-eqb _ _ (c .before .before .before .before .if3 .left), eq-eqb _ _ (c .before .before .if4 .left), eq-eqb _ _ (c .if5 .taken))
+
+returns-6 : tie.Need-returns-6
+unfolding kindOfOption
+returns-6 c =
+    rw (eq-eqb _ _ (c .before .before .before .before .before .before .before .before .if1 .left), eq-eqb _ _ (c .before .before .before .before .before .before .if2 .left), ne-eqb _ _ (c .before .before .before .before .if3 .left), eq-eqb _ _ (c .before .before .if4 .left), ne-eqb _ _ (c .if5 .left))
+
+pub kind-of-spec : {M : Type 1} → statement M
+kind-of-spec = tie.close (tie.spec returns returns-2 returns-3 returns-4 returns-5 returns-6)

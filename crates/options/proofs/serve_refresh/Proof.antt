@@ -1,0 +1,87 @@
+-- `options::serve_refresh` meets its contract. Assumes nothing.
+use native.Mathlib.Omega.{arith}
+use borrow.Author.Needs.{needs}
+use Rattle.options.proofs.OptionLaws as law
+use Rattle.options.proofs.serve_refresh.Statement.{statement}
+use Rattle.options.proofs.serve_refresh.Tie as tie
+use Rattle.options.proofs.serve_refresh.Reads as reads
+use Rattle.options.proofs.serve_refresh.Lts as lts
+use Rattle.entries.proofs.entry_at.Reads as entry-at-reads
+use Rattle.entries.proofs.find_refreshed.Reads as find-refreshed-reads
+use Rattle.octets.proofs.get32.Reads as get32-reads
+use Rattle.options.proofs.granted_lease.Reads as granted-lease-reads
+use Rattle.options.proofs.served.Reads as served-reads
+use Rattle.table.proofs.end_entry.Reads as end-entry-reads
+use Rattle.table.proofs.renew_at.Reads as renew-at-reads
+
+find-refreshed-requires : tie.Need-find-refreshed-requires
+find-refreshed-requires c κs = search needs
+
+served-requires : tie.Need-served-requires
+served-requires c κs = search needs
+
+same-length : tie.Need-same-length
+same-length c = search needs
+
+returns : tie.Need-returns
+returns c =
+    let a = c .before .before .before .before .before .before .before .args in
+    law.refresh-none (a .t .now) (λ j. omega (arith, c .before .before .before .before .before .before .slice-known .given j)) (c .before .before .before .before .before .before .before .pre .0) (a .n) (c .before .before .before .before .before .before .before .pre .1) (a .s) 0 (a .name .now) (a .qtype) (a .qclass) (a .o) (c .before .before .find-refreshed .ensures) (c .before .if1 .taken) _ (c .served .ensures)
+
+entry-at-requires : tie.Need-entry-at-requires
+entry-at-requires c κs = search needs
+
+end-entry-requires : tie.Need-end-entry-requires
+end-entry-requires c κs = search needs
+
+served-requires-2 : tie.Need-served-requires-2
+served-requires-2 c κs = search needs
+
+same-length-2 : tie.Need-same-length-2
+same-length-2 c = search needs
+
+returns-2 : tie.Need-returns-2
+returns-2 c =
+    let a = c .before .before .before .before .before .before .before .before .before .before .before .before .before .before .before .before .args in
+    law.refresh-end (a .t .now) (λ j. omega (arith, c .before .before .before .before .before .before .before .before .before .before .before .before .before .before .before .slice-known .given j)) (c .before .before .before .before .before .before .before .before .before .before .before .before .before .before .before .before .pre .0) (a .n) (c .before .before .before .before .before .before .before .before .before .before .before .before .before .before .before .before .pre .1) (a .s) 0 (a .name .now) (a .qtype) (a .qclass) (a .o) (c .before .before .before .before .before .before .before .before .before .before .before .find-refreshed .ensures) (c .before .before .before .before .before .before .before .before .before .before .if1 .left) _ (c .before .before .before .before .before .before .before .before .entry-at .ensures) (c .before .before .before .before .before .if2 .taken) _ (c .before .before .before .end-entry .ensures) _ (c .served2 .ensures)
+
+granted-lease-requires : tie.Need-granted-lease-requires
+granted-lease-requires c κs = search needs
+
+get32-requires : tie.Need-get32-requires
+get32-requires c κs = search needs
+
+renew-at-requires : tie.Need-renew-at-requires
+renew-at-requires c κs = search needs
+
+served-requires-3 : tie.Need-served-requires-3
+served-requires-3 c κs = search needs
+
+same-length-3 : tie.Need-same-length-3
+same-length-3 c = search needs
+
+returns-3 : tie.Need-returns-3
+returns-3 c =
+    let a = c .before .before .before .before .before .before .before .before .before .before .before .before .before .before .before .before .before .before .before .args in
+    law.refresh-renew (a .t .now) (λ j. omega (arith, c .before .before .before .before .before .before .before .before .before .before .before .before .before .before .before .before .before .before .slice-known .given j)) (c .before .before .before .before .before .before .before .before .before .before .before .before .before .before .before .before .before .before .before .pre .0) (a .n) (c .before .before .before .before .before .before .before .before .before .before .before .before .before .before .before .before .before .before .before .pre .1) (a .s) 0 (a .name .now) (a .qtype) (a .qclass) (a .o) (c .before .before .before .before .before .before .before .before .before .before .before .before .before .before .find-refreshed .ensures) (c .before .before .before .before .before .before .before .before .before .before .before .before .before .if1 .left) _ (c .before .before .before .before .before .before .before .before .before .before .before .entry-at .ensures) (c .before .before .before .before .before .before .before .before .if2 .left) _ _ (c .before .before .before .before .before .before .before .granted-lease .ensures)
+    (omega (arith, c .before .before .before .before .before .before .before)) (c .before .before .before .before .get32 .ensures) _ (c .before .before .before .renew-at .ensures) _ (c .served3 .ensures)
+
+pub serve-refresh-spec : {M : Type 1} → statement M
+serve-refresh-spec =
+    tie.close
+    (tie.spec
+    find-refreshed-requires
+    served-requires
+    same-length
+    returns
+    entry-at-requires
+    end-entry-requires
+    served-requires-2
+    same-length-2
+    returns-2
+    granted-lease-requires
+    get32-requires
+    renew-at-requires
+    served-requires-3
+    same-length-3
+    returns-3)

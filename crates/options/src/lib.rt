@@ -1,0 +1,312 @@
+// One option served on the table as it stands: setup, response, refresh.
+use entries::Entry;
+use entries::Sender;
+use entries::State;
+use wire::LlqNumber;
+use wire::LlqOption;
+use wire::Question;
+ghost use mathlib.Core.Path.{_≡_};
+ghost use Prim.Native.Nat.{_+_, _-_, _≤_};
+ghost use lib.ListN.{length, take};
+ghost use Rattle.model.specs.Table.{sizeOf, readTable};
+ghost use Rattle.model.specs.Rules.{grantedLease};
+ghost use Rattle.model.specs.Serve.{kindOfOption, granted, serveSetup, serveResponse, serveRefresh, serveOption};
+ghost use Rattle.wire.specs.Records.{questionOf, optionOf};
+ghost use Rattle.entries.specs.Reads.{senderOf, asked};
+ghost use Rattle.table.specs.Written.{Laid};
+ghost use Rattle.options.specs.Outcomes.{kindIn, errorOf, leaseOf, repeatedNumber, outcomeOf, servedWith, ServedAs};
+
+// What an option came to.
+pub enum Outcome {
+    // an entry, found or new, pending or not
+    Challenge(LlqNumber, u32),
+    Full,
+    // an established entry and what is left of its lease
+    Established(LlqNumber, u32),
+    Renewed(LlqNumber, u32),
+    Ended(LlqNumber),
+    // the number that the reply carries
+    NoSuchLlq(LlqNumber),
+    BadFormat,
+    BadVersion,
+}
+
+// An option served: the opcode and the number sent, and what it came to.
+pub struct ServedOption {
+    pub opcode: u16,
+    pub number: LlqNumber,
+    pub outcome: Outcome,
+}
+
+// What an option asks for.
+pub enum Kind {
+    BadVersion,
+    BadFormat,
+    Setup,
+    Response,
+    Refresh,
+}
+
+// Version not 1; else opcode not 1 or 2, or error not 0; else opcode 2; else by the number: 0 or not.
+fn kind_of(o: LlqOption) -> Kind
+    ensures { λ r. ⌜ kindIn r ≡ kindOfOption (optionOf o) ⌝ }
+{
+    let number = o.number;
+    if o.version != 1 {
+        return Kind::BadVersion;
+    }
+    if o.error != 0 {
+        return Kind::BadFormat;
+    }
+    if o.opcode == 2 {
+        return Kind::Refresh;
+    }
+    if o.opcode != 1 {
+        return Kind::BadFormat;
+    }
+    if number.0 == 0 {
+        return Kind::Setup;
+    }
+    Kind::Response
+}
+
+// The granted lease: the asked one, raised to 60 or lowered to 7,200.
+fn granted_lease(asked: u32) -> u32
+    ensures { λ r. ⌜ r ≡ grantedLease asked ⌝ }
+{
+    if asked < 60 {
+        return 60;
+    }
+    if asked > 7200 {
+        return 7200;
+    }
+    asked
+}
+
+// A lease less an age, 0 where the age is more.
+fn less(lease: u32, age: u32) -> u32
+    ensures { λ r. ⌜ r ≡ lease - age ⌝ }
+{
+    if lease <= age {
+        return 0;
+    }
+    lease - age
+}
+
+// An option and what it came to.
+fn served(o: LlqOption, outcome: Outcome) -> ServedOption
+    ensures { λ r. ⌜ r ≡ servedWith o outcome ⌝ }
+{
+    let number = o.number;
+    ServedOption {
+        opcode: o.opcode,
+        number,
+        outcome,
+    }
+}
+
+// A new question that is not full: the lowest free slot becomes pending.
+fn grant(
+    t: &mut [u8],
+    n: usize,
+    s: Sender,
+    r: u64,
+    name: &[u8],
+    qtype: u16,
+    qclass: u16,
+    o: LlqOption,
+) -> ServedOption
+    requires { ⌜ Laid (now t) × (length (now t) ≡ sizeOf n) × (length (now name) ≤ 255) ⌝ }
+    ensures { λ x. ⌜ ServedAs (granted (senderOf s) r (asked (now (name .entry)) qtype qclass) (optionOf o) (readTable (now (t .entry)))) (now (t .exit)) x ⌝ }
+{
+    let number = entries::fresh_number(t, n, r);
+    let lease = granted_lease(o.lease);
+    let i = entries::find_free(t, n);
+    if i >= n {
+        return served(o, Outcome::Challenge(LlqNumber(number), lease));
+    }
+    let e = Entry {
+        state: State::Pending,
+        high: s.high,
+        low: s.low,
+        port: s.port,
+        number: LlqNumber(number),
+        lease: lease,
+        stamp: octets::get32(t, 5),
+        qtype: qtype,
+        qclass: qclass,
+        len: name.len() as u8,
+    };
+    table::put_entry(t, i, e, name);
+    served(o, Outcome::Challenge(LlqNumber(number), lease))
+}
+
+fn serve_setup(
+    t: &mut [u8],
+    n: usize,
+    s: Sender,
+    r: u64,
+    name: &[u8],
+    qtype: u16,
+    qclass: u16,
+    o: LlqOption,
+) -> ServedOption
+    requires { ⌜ Laid (now t) × (length (now t) ≡ sizeOf n) × (length (now name) ≤ 255) ⌝ }
+    ensures { λ x. ⌜ ServedAs (serveSetup (senderOf s) r (asked (now (name .entry)) qtype qclass) (optionOf o) (readTable (now (t .entry)))) (now (t .exit)) x ⌝ }
+{
+    let i = entries::find_asked(t, n, s, name, qtype, qclass);
+    if i < n {
+        let e = entries::entry_at(t, i);
+        let number = e.number;
+        return served(o, Outcome::Challenge(number, e.lease));
+    }
+    if entries::is_full(t, n, s.high, s.low) {
+        return served(o, Outcome::Full);
+    }
+    grant(t, n, s, r, name, qtype, qclass, o)
+}
+
+fn serve_response(
+    t: &mut [u8],
+    n: usize,
+    s: Sender,
+    name: &[u8],
+    qtype: u16,
+    qclass: u16,
+    o: LlqOption,
+) -> ServedOption
+    requires { ⌜ Laid (now t) × (length (now t) ≡ sizeOf n) ⌝ }
+    ensures { λ x. ⌜ ServedAs (serveResponse (senderOf s) (asked (now (name .entry)) qtype qclass) (optionOf o) (readTable (now (t .entry)))) (now (t .exit)) x ⌝ }
+{
+    let asked = o.number;
+    let i = entries::find_answered(t, n, s, name, qtype, qclass, asked.0, o.lease);
+    if i >= n {
+        return served(o, Outcome::NoSuchLlq(LlqNumber(0)));
+    }
+    let e = entries::entry_at(t, i);
+    let number = e.number;
+    let left = less(e.lease, clock::age(octets::get32(t, 5), e.stamp));
+    table::establish_at(t, i);
+    served(o, Outcome::Established(number, left))
+}
+
+fn serve_refresh(
+    t: &mut [u8],
+    n: usize,
+    s: Sender,
+    name: &[u8],
+    qtype: u16,
+    qclass: u16,
+    o: LlqOption,
+) -> ServedOption
+    requires { ⌜ Laid (now t) × (length (now t) ≡ sizeOf n) ⌝ }
+    ensures { λ x. ⌜ ServedAs (serveRefresh (senderOf s) (asked (now (name .entry)) qtype qclass) (optionOf o) (readTable (now (t .entry)))) (now (t .exit)) x ⌝ }
+{
+    let asked = o.number;
+    let i = entries::find_refreshed(t, n, s, name, qtype, qclass, asked.0);
+    if i >= n {
+        return served(o, Outcome::NoSuchLlq(asked));
+    }
+    let e = entries::entry_at(t, i);
+    let number = e.number;
+    if o.lease == 0 {
+        table::end_entry(t, i);
+        return served(o, Outcome::Ended(number));
+    }
+    let lease = granted_lease(o.lease);
+    table::renew_at(t, i, lease, octets::get32(t, 5));
+    served(o, Outcome::Renewed(number, lease))
+}
+
+// One option, by its kind, on a question of the name that is the first len bytes of the array.
+fn serve_named(
+    t: &mut [u8],
+    s: Sender,
+    r: u64,
+    name: [u8; 255],
+    len: usize,
+    qtype: u16,
+    qclass: u16,
+    o: LlqOption,
+) -> ServedOption
+    requires { ⌜ Laid (now t) × (len ≤ 255) ⌝ }
+    ensures { λ x. ⌜ ServedAs (serveOption (senderOf s) r (asked (take len name) qtype qclass) (optionOf o) (readTable (now (t .entry)))) (now (t .exit)) x ⌝ }
+{
+    let n = entries::slots(t.len());
+    let kind = kind_of(o);
+    match kind {
+        Kind::BadVersion => served(o, Outcome::BadVersion),
+        Kind::BadFormat => served(o, Outcome::BadFormat),
+        Kind::Setup => serve_setup(t, n, s, r, &name[0..len], qtype, qclass, o),
+        Kind::Response => serve_response(t, n, s, &name[0..len], qtype, qclass, o),
+        Kind::Refresh => serve_refresh(t, n, s, &name[0..len], qtype, qclass, o),
+    }
+}
+
+// One option on its question, on the table as it stands.
+pub fn serve_option(t: &mut [u8], s: Sender, r: u64, q: Question, o: LlqOption) -> ServedOption
+    requires { ⌜ Laid (now t) × (q .len ≤ 255) ⌝ }
+    ensures { λ x. ⌜ ServedAs (serveOption (senderOf s) r (questionOf q) (optionOf o) (readTable (now (t .entry)))) (now (t .exit)) x ⌝ }
+{
+    let name = q.name;
+    serve_named(t, s, r, name, q.len, q.qtype, q.qclass, o)
+}
+
+// What the reply says: document 01's error, number and lease.
+
+pub fn error_of(x: Outcome) -> u16
+    ensures { λ r. ⌜ r ≡ errorOf x ⌝ }
+{
+    match x {
+        Outcome::Full => 1,
+        Outcome::BadFormat => 3,
+        Outcome::NoSuchLlq(_) => 4,
+        Outcome::BadVersion => 5,
+        Outcome::Challenge(_, _) => 0,
+        Outcome::Established(_, _) => 0,
+        Outcome::Renewed(_, _) => 0,
+        Outcome::Ended(_) => 0,
+    }
+}
+
+pub fn lease_of(x: Outcome) -> u32
+    ensures { λ r. ⌜ r ≡ leaseOf x ⌝ }
+{
+    match x {
+        Outcome::Full => 60,
+        Outcome::BadFormat => 0,
+        Outcome::NoSuchLlq(_) => 0,
+        Outcome::BadVersion => 0,
+        Outcome::Challenge(_, lease) => lease,
+        Outcome::Established(_, lease) => lease,
+        Outcome::Renewed(_, lease) => lease,
+        Outcome::Ended(_) => 0,
+    }
+}
+
+// The number of a malformed option: with opcode 2 the one sent, otherwise 0.
+fn repeated(opcode: u16, number: LlqNumber) -> LlqNumber
+    ensures { λ r. ⌜ r .0 ≡ repeatedNumber opcode (number .0) ⌝ }
+{
+    if opcode == 2 {
+        return number;
+    }
+    LlqNumber(0)
+}
+
+pub fn number_of(s: ServedOption) -> LlqNumber
+    ensures { λ r. ⌜ r .0 ≡ outcomeOf s .number ⌝ }
+{
+    let x = s.outcome;
+    let sent = s.number;
+    match x {
+        Outcome::Full => LlqNumber(0),
+        Outcome::BadFormat => repeated(s.opcode, sent),
+        Outcome::NoSuchLlq(number) => number,
+        Outcome::BadVersion => repeated(s.opcode, sent),
+        Outcome::Challenge(number, _) => number,
+        Outcome::Established(number, _) => number,
+        Outcome::Renewed(number, _) => number,
+        Outcome::Ended(number) => number,
+    }
+}

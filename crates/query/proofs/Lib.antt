@@ -1,0 +1,4 @@
+pub mod HeaderLaws
+pub mod QuestionLaws
+pub mod OptionLaws
+pub mod ParseLaws

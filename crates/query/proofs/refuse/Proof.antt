@@ -1,0 +1,14 @@
+-- The proof of `refuse`. Assumes nothing.
+use borrow.Author.Needs.{needs}
+use Rattle.query.proofs.refuse.Statement.{statement}
+use Rattle.query.proofs.refuse.Tie as tie
+use Prim.Native.Nat.{_-_}
+
+blank-option-requires : tie.Need-blank-option-requires
+blank-option-requires c κs = search needs
+
+returns : tie.Need-returns
+returns c = rw (c .blank-option .ensures)
+
+pub refuse-spec : {M : Type 1} → statement M
+refuse-spec = tie.close (tie.spec blank-option-requires returns)

@@ -1,0 +1,358 @@
+// Document 01's query, read left to right: header, questions, OPT record, options. Refusals 3 to 7.
+ghost use mathlib.Core.Path.{_≡_};
+ghost use Prim.Native.Nat.{_+_, _≤_};
+ghost use lib.ListN.{length};
+ghost use mathlib.Core.Bool.{true};
+ghost use Rattle.model.specs.Query.{goodQuestions};
+ghost use Rattle.query.specs.Parts.{headerRecord, goodFields, blankQuestion, blankOption, QuestionsPassed, firstQuestions, OptionsRead, goodStart};
+ghost use Rattle.query.specs.Whole.{refusedWith, Judges, Reads};
+use wire::Cursor;
+use wire::LlqNumber;
+use wire::LlqOption;
+use wire::MessageNumber;
+use wire::OptionRead;
+use wire::Question;
+use wire::QuestionRead;
+
+// The header's fields: the third byte holds QR, OPCODE, AA, TC and RD.
+pub struct Header {
+    pub number: MessageNumber,
+    pub flags: u8,
+    pub qdcount: u16,
+    pub ancount: u16,
+    pub nscount: u16,
+    pub arcount: u16,
+}
+
+// Where the questions end, or that one of them is bad.
+pub enum End {
+    Whole(Cursor),
+    Bad,
+}
+
+// The options of code 1: the first eight by value, how many there are, whether each has length 18; and whether the options fill the datagram.
+pub struct Options {
+    pub all: [LlqOption; 8],
+    pub count: usize,
+    pub sized: bool,
+    pub fill: bool,
+}
+
+// What a query is found to be, but for its questions. Where a number refuses it, there are none.
+pub struct Judged {
+    pub refused: u32,
+    pub number: MessageNumber,
+    pub desired: u8,
+    pub count: usize,
+    pub options: [LlqOption; 8],
+    pub end: usize,
+    pub matched: bool,
+}
+
+// Up to eight questions beside their options. The options are those of the questions where they matched.
+pub struct Query {
+    pub number: MessageNumber,
+    pub desired: u8,
+    pub count: usize,
+    pub questions: [Question; 8],
+    pub options: [LlqOption; 8],
+    pub end: usize,
+    pub matched: bool,
+}
+
+// The refusal's number, 3 to 7, or 0 and the query.
+pub struct Parsed {
+    pub refused: u32,
+    pub query: Query,
+}
+
+pub fn read_header(s: &[u8]) -> Header
+    requires { ⌜ 12 ≤ length (now s) ⌝ }
+    ensures { λ r. ⌜ r ≡ headerRecord (now (s .entry)) ⌝ }
+{
+    Header {
+        number: MessageNumber(octets::get16(s, 0)),
+        flags: s[2],
+        qdcount: octets::get16(s, 4),
+        ancount: octets::get16(s, 6),
+        nscount: octets::get16(s, 8),
+        arcount: octets::get16(s, 10),
+    }
+}
+
+// Refusal 4's tests.
+pub fn good_header(h: Header) -> bool
+    ensures { λ r. ⌜ r ≡ goodFields h ⌝ }
+{
+    if h.flags / 128 % 2 != 0 {
+        return false;
+    }
+    if h.flags / 8 % 16 != 0 {
+        return false;
+    }
+    if h.flags / 2 % 2 != 0 {
+        return false;
+    }
+    if h.qdcount < 1 {
+        return false;
+    }
+    if h.qdcount > 8 {
+        return false;
+    }
+    if h.ancount != 0 {
+        return false;
+    }
+    if h.nscount != 0 {
+        return false;
+    }
+    h.arcount == 1
+}
+
+pub fn blank_question() -> Question
+    ensures { λ r. ⌜ r ≡ blankQuestion ⌝ }
+{
+    Question {
+        name: [0u8; 255],
+        len: 0,
+        qtype: 0,
+        qclass: 0,
+    }
+}
+
+pub fn blank_option() -> LlqOption
+    ensures { λ r. ⌜ r ≡ blankOption ⌝ }
+{
+    LlqOption {
+        version: 0,
+        opcode: 0,
+        error: 0,
+        number: LlqNumber(0),
+        lease: 0,
+    }
+}
+
+// Refusal 5: count questions from the header's end, passed without a look at their names' letters.
+pub fn pass_questions(s: &[u8], count: usize) -> End
+    ensures { λ r. ⌜ QuestionsPassed (now (s .entry)) count r ⌝ }
+{
+    let mut c = Cursor { at: 12 };
+    let mut i: usize = 0;
+    while i < count {
+        match c.question(s) {
+            QuestionRead::Found {
+                start: _,
+                len: _,
+                qtype: _,
+                qclass: _,
+                next,
+            } => {
+                c = next;
+                i = i + 1;
+            }
+            QuestionRead::Bad => {
+                return End::Bad;
+            }
+        }
+    }
+    End::Whole(c)
+}
+
+// Those questions by value, once all are known to be good.
+pub fn read_questions(s: &[u8], count: usize) -> [Question; 8]
+    requires { ⌜ (count ≤ 8) × (goodQuestions (now s) count ≡ true) ⌝ }
+    ensures { λ r. ⌜ r ≡ firstQuestions (now (s .entry)) count ⌝ }
+{
+    let none = blank_question();
+    let mut all = [none; 8];
+    let mut c = Cursor { at: 12 };
+    let mut i: usize = 0;
+    while i < count {
+        match c.question(s) {
+            QuestionRead::Found {
+                start,
+                len,
+                qtype,
+                qclass,
+                next,
+            } => {
+                all[i] = wire::question_of(s, start, len, qtype, qclass);
+                c = next;
+                i = i + 1;
+            }
+            QuestionRead::Bad => {
+                return all;
+            }
+        }
+    }
+    all
+}
+
+// Refusal 6, but for the options: root, type 41, version 0, and data that ends where the datagram does.
+pub fn opt_starts(s: &[u8], at: usize) -> bool
+    ensures { λ r. ⌜ r ≡ goodStart (now (s .entry)) at ⌝ }
+{
+    if s.len() < 11 {
+        return false;
+    }
+    if s.len() - 11 < at {
+        return false;
+    }
+    if s[at] != 0 {
+        return false;
+    }
+    if octets::get16(s, at + 1) != 41 {
+        return false;
+    }
+    if s[at + 6] != 0 {
+        return false;
+    }
+    at + 11 + octets::get16(s, at + 9) as usize == s.len()
+}
+
+// The options from a place to the end.
+pub fn read_options(s: &[u8], first: Cursor) -> Options
+    requires { ⌜ first .at ≤ length (now s) ⌝ }
+    ensures { λ r. ⌜ OptionsRead (now (s .entry)) (first .at) r ⌝ }
+{
+    let none = blank_option();
+    let mut all = [none; 8];
+    let mut count: usize = 0;
+    let mut sized = true;
+    let mut c = first;
+    while c.at < s.len() {
+        match c.option(s) {
+            OptionRead::Found {
+                code,
+                start,
+                size,
+                next,
+            } => {
+                if code == 1 {
+                    if size == 18 {
+                        if count < 8 {
+                            all[count] = wire::option_of(s, start);
+                            count = count + 1;
+                            c = next;
+                        } else {
+                            count = count + 1;
+                            c = next;
+                        }
+                    } else {
+                        sized = false;
+                        count = count + 1;
+                        c = next;
+                    }
+                } else {
+                    c = next;
+                }
+            }
+            OptionRead::Bad => {
+                return Options {
+                    all,
+                    count,
+                    sized,
+                    fill: false,
+                };
+            }
+        }
+    }
+    Options {
+        all,
+        count,
+        sized,
+        fill: true,
+    }
+}
+
+pub fn refuse(number: u32) -> Judged
+    ensures { λ r. ⌜ r ≡ refusedWith number ⌝ }
+{
+    let o = blank_option();
+    Judged {
+        refused: number,
+        number: MessageNumber(0),
+        desired: 0,
+        count: 0,
+        options: [o; 8],
+        end: 0,
+        matched: false,
+    }
+}
+
+// Refusals 3 to 7, lowest number first.
+pub fn judge(d: &[u8]) -> Judged
+    ensures { λ r. ⌜ Judges (now (d .entry)) r ⌝ }
+{
+    if d.len() < 12 {
+        return refuse(3);
+    }
+    if d.len() > 1472 {
+        return refuse(3);
+    }
+    let h = read_header(d);
+    if !good_header(h) {
+        return refuse(4);
+    }
+    let count = h.qdcount as usize;
+    match pass_questions(d, count) {
+        End::Bad => refuse(5),
+        End::Whole(c) => {
+            let end = c.at;
+            if !opt_starts(d, end) {
+                return refuse(6);
+            }
+            let o = read_options(d, Cursor { at: end + 11 });
+            if !o.fill {
+                return refuse(6);
+            }
+            if o.count == 0 {
+                return refuse(7);
+            }
+            let number = h.number;
+            let options = o.all;
+            if o.count == count {
+                Judged {
+                    refused: 0,
+                    number,
+                    desired: h.flags % 2,
+                    count,
+                    options,
+                    end,
+                    matched: o.sized,
+                }
+            } else {
+                Judged {
+                    refused: 0,
+                    number,
+                    desired: h.flags % 2,
+                    count,
+                    options,
+                    end,
+                    matched: false,
+                }
+            }
+        }
+    }
+}
+
+// A datagram's refusal, or the query that it is.
+pub fn parse(d: &[u8]) -> Parsed
+    ensures { λ r. ⌜ Reads (now (d .entry)) r ⌝ }
+{
+    let j = judge(d);
+    let number = j.number;
+    let questions = read_questions(d, j.count);
+    let options = j.options;
+    Parsed {
+        refused: j.refused,
+        query: Query {
+            number,
+            desired: j.desired,
+            count: j.count,
+            questions,
+            options,
+            end: j.end,
+            matched: j.matched,
+        },
+    }
+}

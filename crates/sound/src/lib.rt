@@ -1,0 +1,268 @@
+// Whether a table's bytes are sound, and a roster's good: document 01, "A table is sound if ..".
+ghost use mathlib.Core.Path.{_≡_};
+ghost use mathlib.Core.Bool.{true, _&&_};
+ghost use Prim.Native.Nat.{_+_, _-_, _*_, _^_, _≤_, _<_};
+ghost use lib.ListN.{length};
+ghost use lib.Dec.{leb, ltb};
+ghost use Rattle.model.specs.Numbers.{bigEndian};
+ghost use Rattle.model.specs.Clock.{cycle};
+ghost use Rattle.model.specs.Lists.{count, any, every};
+ghost use Rattle.model.specs.Table.{slotAt, lineAt, readLine, listed};
+ghost use Rattle.model.specs.Rules.{heldBy, limitOf, reserve};
+ghost use Rattle.model.specs.Sound.{validLine, validEntry, soundRoster, soundHoldings, soundBytes};
+ghost use Rattle.model.specs.Calls.{goodRoster};
+ghost use Rattle.layout.specs.Shape.{all, slotShape, linesTo, tableShape};
+ghost use Rattle.layout.specs.Held.{holdingAt, heldTo, okAt};
+ghost use Rattle.sound.specs.Fits.{fits, fitted};
+
+// Each slot has its kind's zeros.
+fn slots_shape(t: &[u8], n: usize) -> bool
+    requires { ⌜ (n ≤ 64) × (slotAt n ≤ length (now t)) ⌝ }
+    ensures { λ r. ⌜ r ≡ all (λ i. slotShape (now (t .entry)) (slotAt i)) n ⌝ }
+{
+    let mut i: usize = 0;
+    while i < n {
+        if !record::slot_shape(t, 313 + 320 * i) {
+            return false;
+        }
+        i += 1;
+    }
+    true
+}
+
+// Kinds, order and zeros are as the layout has them; m lines are listed.
+fn table_shape(t: &[u8], n: usize, m: usize) -> bool
+    requires { ⌜ (n ≤ 64) × (m ≤ 16) × (slotAt n ≤ length (now t)) × (m ≡ listed (now t) 16) ⌝ }
+    ensures { λ r. ⌜ r ≡ tableShape (now (t .entry)) n ⌝ }
+{
+    if t[0] != 1 {
+        return false;
+    }
+    if !roster::unused_from(t, m) {
+        return false;
+    }
+    slots_shape(t, n)
+}
+
+// Slot i is free, or its entry meets an entry's rules.
+fn slot_valid(t: &[u8], i: usize, running: u32) -> bool
+    requires { ⌜ (i < 64) × (slotAt (i + 1) ≤ length (now t)) × (running ≡ bigEndian (now t) 5 4) ⌝ }
+    ensures { λ r. ⌜ r ≡ okAt (now (t .entry)) validEntry i ⌝ }
+{
+    let a = 313 + 320 * i;
+    if record::in_use(t[a]) {
+        return record::valid_entry(t, a, running);
+    }
+    true
+}
+
+// Each entry meets an entry's rules.
+fn entries_valid(t: &[u8], n: usize) -> bool
+    requires { ⌜ (n ≤ 64) × (slotAt n ≤ length (now t)) ⌝ }
+    ensures { λ r. ⌜ r ≡ every validEntry (heldTo (now (t .entry)) n) ⌝ }
+{
+    let running = octets::get32(t, 5);
+    let mut i: usize = 0;
+    while i < n {
+        if !slot_valid(t, i, running) {
+            return false;
+        }
+        i += 1;
+    }
+    true
+}
+
+// The address may hold one entry more than k.
+fn may_add(t: &[u8], m: usize, k: usize, hi: u64, lo: u64) -> bool
+    requires { ⌜ (m ≤ 16) × (313 ≤ length (now t)) × (k ≤ 64) × (every validLine (linesTo (now t) m) ≡ true) ⌝ }
+    ensures { λ r. ⌜ r ≡ leb (k + 1) (limitOf (linesTo (now (t .entry)) m) (hi * 2 ^ 64 + lo)) ⌝ }
+{
+    if k == 0 {
+        return true;
+    }
+    k < roster::limit_of(t, m, hi, lo)
+}
+
+// The entry at c, with those below slot i: none has its number, none has its address and asks the same, and its address is within its limit.
+fn fits_below(t: &[u8], i: usize, c: usize, m: usize) -> bool
+    requires { ⌜ (i ≤ 64) × (m ≤ 16) × (slotAt i ≤ length (now t)) × (c + 320 ≤ length (now t)) × (every validLine (linesTo (now t) m) ≡ true) ⌝ }
+    ensures { λ r. ⌜ r ≡ fits (now (t .entry)) (linesTo (now (t .entry)) m) i (holdingAt (now (t .entry)) c) ⌝ }
+{
+    let number = octets::get64(t, c + 19);
+    let hi = octets::get64(t, c + 1);
+    let lo = octets::get64(t, c + 9);
+    let mut k: usize = 0;
+    let mut j: usize = 0;
+    while j < i {
+        let a = 313 + 320 * j;
+        if record::has_number(t, a, number) {
+            return false;
+        }
+        if record::has_holder(t, a, hi, lo) {
+            if record::same_asked(t, a, c) {
+                return false;
+            }
+            k += 1;
+        }
+        j += 1;
+    }
+    may_add(t, m, k, hi, lo)
+}
+
+// Slot i is free, or its entry fits with those below.
+fn slot_fits(t: &[u8], i: usize, m: usize) -> bool
+    requires { ⌜ (i < 64) × (m ≤ 16) × (slotAt (i + 1) ≤ length (now t)) × (every validLine (linesTo (now t) m) ≡ true) ⌝ }
+    ensures { λ r. ⌜ r ≡ okAt (now (t .entry)) (fits (now (t .entry)) (linesTo (now (t .entry)) m) i) i ⌝ }
+{
+    let a = 313 + 320 * i;
+    if record::in_use(t[a]) {
+        return fits_below(t, i, a, m);
+    }
+    true
+}
+
+// No two entries have one number, or one address and question; no address holds more than its limit.
+fn entries_fit(t: &[u8], n: usize, m: usize) -> bool
+    requires { ⌜ (n ≤ 64) × (m ≤ 16) × (slotAt n ≤ length (now t)) × (every validLine (linesTo (now t) m) ≡ true) ⌝ }
+    ensures { λ r. ⌜ r ≡ fitted (now (t .entry)) (linesTo (now (t .entry)) m) n ⌝ }
+{
+    let mut i: usize = 0;
+    while i < n {
+        if !slot_fits(t, i, m) {
+            return false;
+        }
+        i += 1;
+    }
+    true
+}
+
+// How many entries the address holds.
+pub fn held_by(t: &[u8], n: usize, hi: u64, lo: u64) -> usize
+    requires { ⌜ (n ≤ 64) × (slotAt n ≤ length (now t)) ⌝ }
+    ensures { λ r. ⌜ (r ≤ n) × (r ≡ count (heldTo (now (t .entry)) n) (heldBy (hi * 2 ^ 64 + lo))) ⌝ }
+{
+    let mut k: usize = 0;
+    let mut i: usize = 0;
+    while i < n {
+        if record::has_holder(t, 313 + 320 * i, hi, lo) {
+            k += 1;
+        }
+        i += 1;
+    }
+    k
+}
+
+// How many entries there are.
+pub fn entries(t: &[u8], n: usize) -> usize
+    requires { ⌜ (n ≤ 64) × (slotAt n ≤ length (now t)) ⌝ }
+    ensures { λ r. ⌜ (r ≤ n) × (r ≡ count (heldTo (now (t .entry)) n) any) ⌝ }
+{
+    let mut k: usize = 0;
+    let mut i: usize = 0;
+    while i < n {
+        if record::in_use(t[313 + 320 * i]) {
+            k += 1;
+        }
+        i += 1;
+    }
+    k
+}
+
+// What line i keeps back: its share less what its address holds, where that is positive.
+fn kept_back(t: &[u8], n: usize, i: usize) -> usize
+    requires { ⌜ (n ≤ 64) × (i < 16) × (slotAt n ≤ length (now t)) ⌝ }
+    ensures { λ r. ⌜ (r < 256) × (r ≡ readLine (now (t .entry)) (lineAt i) .share - count (heldTo (now (t .entry)) n) (heldBy (readLine (now (t .entry)) (lineAt i) .address))) ⌝ }
+{
+    let a = 9 + 19 * i;
+    let share = t[a + 17] as usize;
+    if share == 0 {
+        return 0;
+    }
+    let held = held_by(t, n, octets::get64(t, a + 1), octets::get64(t, a + 9));
+    if share <= held {
+        return 0;
+    }
+    share - held
+}
+
+// The reserve, by the first m lines.
+pub fn reserve_of(t: &[u8], n: usize, m: usize) -> usize
+    requires { ⌜ (m ≤ 16) × (n ≤ 64) × (slotAt n ≤ length (now t)) ⌝ }
+    ensures { λ r. ⌜ (r ≤ 4096) × (r ≡ reserve (linesTo (now (t .entry)) m) (count (heldTo (now (t .entry)) n))) ⌝ }
+{
+    let mut s: usize = 0;
+    let mut i: usize = 0;
+    while i < m {
+        s += kept_back(t, n, i);
+        i += 1;
+    }
+    s
+}
+
+// The rules of the entries.
+fn holdings_sound(t: &[u8], n: usize, m: usize) -> bool
+    requires { ⌜ (n ≤ 64) × (m ≤ 16) × (slotAt n ≤ length (now t)) × (every validLine (linesTo (now t) m) ≡ true) ⌝ }
+    ensures { λ r. ⌜ r ≡ soundHoldings n (linesTo (now (t .entry)) m) (heldTo (now (t .entry)) n) ⌝ }
+{
+    if !entries_valid(t, n) {
+        return false;
+    }
+    if !entries_fit(t, n, m) {
+        return false;
+    }
+    reserve_of(t, n, m) + entries(t, n) <= n
+}
+
+// The rules of a table of n slots.
+fn rules_sound(t: &[u8], n: usize, m: usize) -> bool
+    requires { ⌜ (n ≤ 64) × (m ≤ 16) × (slotAt n ≤ length (now t)) ⌝ }
+    ensures { λ r. ⌜ r ≡ (ltb (bigEndian (now (t .entry)) 1 4) cycle && (soundRoster n (linesTo (now (t .entry)) m) && soundHoldings n (linesTo (now (t .entry)) m) (heldTo (now (t .entry)) n))) ⌝ }
+{
+    if octets::get32(t, 1) >= 619315200 {
+        return false;
+    }
+    if !roster::lines_sound(t, 9, m, n) {
+        return false;
+    }
+    holdings_sound(t, n, m)
+}
+
+// The bytes are those of a sound table.
+pub fn sound(t: &[u8]) -> bool
+    ensures { λ r. ⌜ r ≡ soundBytes (now (t .entry)) ⌝ }
+{
+    let len = t.len();
+    if len < 633 {
+        return false;
+    }
+    if len > 20793 {
+        return false;
+    }
+    let n = (len - 313) / 320;
+    if 313 + 320 * n != len {
+        return false;
+    }
+    let m = roster::listed_lines(t);
+    if !table_shape(t, n, m) {
+        return false;
+    }
+    rules_sound(t, n, m)
+}
+
+// The bytes are 0 to 16 records of kind 0x03 that meet the roster rules of n slots.
+pub fn roster_sound(r: &[u8], n: usize) -> bool
+    ensures { λ x. ⌜ x ≡ goodRoster n (now (r .entry)) ⌝ }
+{
+    let len = r.len();
+    if len > 304 {
+        return false;
+    }
+    let m = len / 19;
+    if 19 * m != len {
+        return false;
+    }
+    if !roster::kinds_listed(r, m) {
+        return false;
+    }
+    roster::lines_sound(r, 0, m, n)
+}

@@ -1,0 +1,60 @@
+-- Laws for an entry written into a slot. Assumes nothing.
+use Prim.Native.Nat.{ℕ, zero, suc, _+_, _-_, _*_, _/_, _%_, _^_, _≤_, _<_}
+use native.Mathlib.Nat.{add-zero, add-suc, mul-assoc, pow-suc}
+use native.Mathlib.Omega.{arith}
+use mathlib.Core.Path.{_≡_, refl, sym, ap, _∙_}
+use mathlib.Core.Bool.{Bool, true, false}
+use mathlib.Core.List.{List, [], _∷_, _++_, append-nil, append-assoc}
+use lib.ListN.{length, drop, replicate, length-append, drop-of-length-le}
+use Rattle.model.specs.Numbers.{bytesOf, splice, encode}
+use Rattle.model.specs.Table.{held, slotBytes}
+use Rattle.model.proofs.NumberLaws.{splice-splice, splice-on, length-bytes, length-encode}
+use Rattle.entries.specs.declared.Entry.{Entry}
+use Rattle.entries.specs.declared.State.the-variants.{Pending, Established}
+use Rattle.table.specs.Stored.{whoFields, whoParts, whatFields, nameBytes, entryBytes, storedAs}
+
+-- a number's bytes in two parts
+bytes-add : (j k x y : ℕ) → y < 256 ^ k → bytesOf (j + k) (x * 256 ^ k + y) ≡ bytesOf j x ++ bytesOf k y
+unfolding bytesOf
+bytes-add j zero x y h = let e : x * 1 + y ≡ x = omega arith in rw (add-zero, e, append-nil)
+bytes-add j (suc k) x y h =
+    let p : x * (256 ^ k * 256) ≡ x * 256 ^ k * 256 = sym (mul-assoc x (256 ^ k) 256) in
+    let w : y < 256 ^ k * 256 = rw pow-suc at h in
+    let d : (x * 256 ^ k * 256 + y) / 256 ≡ x * 256 ^ k + y / 256 = omega arith in
+    let m : (x * 256 ^ k * 256 + y) % 256 ≡ y % 256 = omega arith in
+    rw (add-suc, pow-suc, p, d, m, bytes-add j k x (y / 256) (omega arith), append-assoc)
+
+pub who-is : (e : Entry) → e .low < 2 ^ 64 → encode (whoParts e) ≡ encode (whoFields e)
+unfolding encode
+who-is e h = rw (bytes-add 8 8 (e .high) (e .low) h, append-assoc)
+
+pub name-bytes : (s name : List ℕ) → length s ≡ 320 → length name ≤ 255
+    → splice (40 + length name) (280 - length name) (replicate (280 - length name) 0) (splice 40 (length name) name (splice 39 1 (bytesOf 1 (length name)) s))
+    ≡ splice 39 281 (nameBytes name) s
+name-bytes s name h l =
+    let n = length name in
+    let a = splice-splice 39 1 n (bytesOf 1 n) name s (length-bytes 1 n) (omega arith) in
+    let ln : length (bytesOf 1 n ++ name) ≡ 1 + n = length-append (bytesOf 1 n) name ∙ ap (λ (k : ℕ). k + n) (length-bytes 1 n) in
+    let z = splice-splice 39 (1 + n) (280 - n) (bytesOf 1 n ++ name) (replicate (280 - n) 0) s ln (omega arith) in
+    let p : 40 + n ≡ 39 + (1 + n) = omega arith in
+    let q : 1 + n + (280 - n) ≡ 281 = omega arith in
+    rw (a, p, z, q, append-assoc)
+
+whole : (s vs : List ℕ) → length s ≡ 320 → splice 0 320 vs s ≡ vs
+unfolding splice
+whole s vs h = let e : length s ≤ 320 = omega arith in rw (drop-of-length-le s e) (append-nil vs)
+
+pub entry-bytes : (s : List ℕ) (e : Entry) (name : List ℕ) → length s ≡ 320 → length name ≤ 255
+    → splice 39 281 (nameBytes name) (splice 27 12 (encode (whatFields e)) (splice 0 27 (encode (whoFields e)) s)) ≡ entryBytes e name
+unfolding entryBytes
+entry-bytes s e name h l =
+    let a = splice-on 27 12 (encode (whoFields e)) (encode (whatFields e)) s (length-encode (whoFields e)) (omega arith) in
+    let ln : length (encode (whoFields e) ++ encode (whatFields e)) ≡ 39 =
+    length-append (encode (whoFields e)) (encode (whatFields e)) ∙ (rw (length-encode (whoFields e), length-encode (whatFields e))) in
+    let b = splice-on 39 281 (encode (whoFields e) ++ encode (whatFields e)) (nameBytes name) s ln (omega arith) in
+    rw (a, b) (whole s _ h)
+
+-- a pending entry's bytes are the model's
+pub pending-bytes : (e : Entry) (name : List ℕ) → e .state ≡ Pending → entryBytes e name ≡ slotBytes (held (storedAs false e name))
+unfolding entryBytes slotBytes encode
+pending-bytes e name h = rw h (simp (append-assoc, append-nil))

@@ -1,0 +1,4 @@
+pub mod WriteLaws
+pub mod EntryLaws
+pub mod SweepLaws
+pub mod FreshLaws

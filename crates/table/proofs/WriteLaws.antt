@@ -1,0 +1,149 @@
+-- Laws for one slot or the clock written in place: the bytes are again those of a table. Assumes nothing.
+use Prim.Native.Nat.{ℕ, zero, suc, _+_, _-_, _*_, _/_, _%_, _^_, _≤_, _<_}
+use native.Mathlib.Omega.{arith}
+use mathlib.Core.Path.{_≡_, refl, sym, ap, _∙_}
+use mathlib.Core.Bool.{Bool, true, false, not, cond}
+use mathlib.Core.Logic.{⊎-elim, _≢_}
+use mathlib.Core.List.{List, [], _∷_, _++_, append-assoc}
+use lib.ListN.{length, getD, take, drop, set, replicate, length-append, length-set}
+use lib.Seq.{take-at, drop-at, getD-set-same, getD-set-other, set-out, length-take-le}
+use lib.Dec.{eqb, lit<}
+use Rattle.model.specs.Numbers.{Bytes, bigEndian, bytesOf, part, splice, encode}
+use Rattle.model.specs.Clock.{Clock}
+use Rattle.model.specs.Table.{Line, Entry, Slot, free, held, Table, slotBytes, tableBytes, readTable, readSlot, readEntry, slotAt, sizeOf, slotsIn, unusedLine, kindOf}
+use Rattle.model.specs.Rules.{grantedLease}
+use Rattle.model.specs.Sound.{FitsEntry, FitsSlot, Fits}
+use Rattle.model.specs.Serve.{withClock, withSlots, withSlot, slotOf, establish, renew}
+use Rattle.model.proofs.NumberLaws.{length-splice, splice-splice, splice-part, length-encode, encode-first, length-bytes, writes-eq}
+use Rattle.model.proofs.TableLaws.{with-slot, with-clock, clockFields}
+use Rattle.model.proofs.RoundTrip.{table-back}
+use Rattle.model.proofs.Meaning.{fits-read, lines-read, slots-read}
+use Rattle.layout.proofs.ReadLaws.{laid-size, laid-slot, slot-read}
+use Rattle.table.specs.Written.{Laid, Written}
+
+-- bytes that are not written stay as they are
+pub unwritten : (b : List ℕ) → Laid b → Written b (readTable b)
+unwritten b laid = record { bytes = sym laid; read = refl }
+
+-- a table that fits is read back, and its bytes are laid
+pub written : (b : List ℕ) (t : Table) → length (t .roster) ≤ 16 → Fits t → b ≡ tableBytes t → Written b t
+written b t l f e = record { bytes = e; read = ap readTable e ∙ table-back t l f }
+
+pub written-laid : {b : List ℕ} {t : Table} → Written b t → Laid b
+written-laid w = ap tableBytes (w .read) ∙ sym (w .bytes)
+
+-- the size is kept
+pub laid-n : (b : List ℕ) → Bytes b → Laid b → (n : ℕ) → n ≡ slotsIn (length b) → length b ≡ sizeOf n
+laid-n b bytes laid n e = rw e (laid-size b bytes laid)
+
+fits-set : (ss : List Slot) (i : ℕ) (s : Slot) → FitsSlot s → ((j : ℕ) → j < length ss → FitsSlot (getD ss j free)) → (j : ℕ) → j < length (set ss i s)
+    → FitsSlot (getD (set ss i s) j free)
+fits-set [] i s f g j l = g j l
+fits-set (x ∷ ss) zero s f g zero l = f
+fits-set (x ∷ ss) zero s f g (suc j) l = g (suc j) l
+fits-set (x ∷ ss) (suc i) s f g zero l = g 0 (omega arith)
+fits-set (x ∷ ss) (suc i) s f g (suc j) l = fits-set ss i s f (λ k m. g (suc k) (omega arith)) j (omega arith)
+
+module _ (b : List ℕ) (bytes : Bytes b) (laid : Laid b) where
+  -- slot i written
+  pub slot-written : (i : ℕ) (s : Slot) → i < slotsIn (length b) → FitsSlot s → (x : List ℕ) → x ≡ splice (slotAt i) 320 (slotBytes s) b
+      → Written x (withSlot (readTable b) i s)
+  slot-written i s l f x e =
+      let r = fits-read b bytes in
+      written x (withSlot (readTable b) i s) (lines-read b)
+      (record { place = r .place; running = r .running; lines = r .lines; slots = fits-set (readTable b .slots) i s f (r .slots) })
+      (e ∙ ap (splice (slotAt i) 320 (slotBytes s)) (sym laid) ∙ with-slot (readTable b) (lines-read b) r i s (rw (slots-read b) l))
+
+  -- the clock written
+  pub clock-written : (c : Clock) → c .place < 256 ^ 4 → c .running < 256 ^ 4 → (x : List ℕ) → x ≡ splice 1 8 (encode ((4, c .place) ∷ (4, c .running) ∷ [])) b
+      → Written x (withClock (readTable b) c)
+  clock-written c p r x e =
+      let f = fits-read b bytes in
+      written x (withClock (readTable b) c) (lines-read b) (record { place = p; running = r; lines = f .lines; slots = f .slots })
+      (e ∙ ap (splice 1 8 (encode ((4, c .place) ∷ (4, c .running) ∷ []))) (sym laid) ∙ with-clock (readTable b) c)
+
+-- SOME FIELDS OF A ROW WRITTEN
+
+splice-mid : (p m q vs : List ℕ) (a k : ℕ) → length p ≡ a → length m ≡ k → splice a k vs (p ++ (m ++ q)) ≡ p ++ (vs ++ q)
+unfolding splice
+splice-mid p m q vs a k e f =
+    let l : length (p ++ m) ≡ a + k = length-append p m ∙ (rw (e, f)) in
+    let d : drop (a + k) (p ++ (m ++ q)) ≡ q = ap (drop (a + k)) (sym (append-assoc p m q)) ∙ drop-at (p ++ m) q (a + k) l in
+    rw (take-at p (m ++ q) a e, d)
+
+pub row-edit : (b p m q vs : List ℕ) (at o k w : ℕ) → at ≤ length b → part at w b ≡ p ++ (m ++ q) → length p ≡ o → length m ≡ k
+    → splice (at + o) k vs b ≡ splice at w (p ++ (vs ++ q)) b
+unfolding splice
+row-edit b p m q vs at o k w h e lp lm =
+    let x = take at b in
+    let z = drop (at + w) b in
+    let whole : b ≡ (x ++ p) ++ (m ++ (q ++ z)) =
+    sym (splice-part at w b) ∙ ap (λ (s : List ℕ). x ++ (s ++ z)) e ∙ simp append-assoc in
+    let l : length (x ++ p) ≡ at + o = length-append x p ∙ (rw (length-take-le at b h, lp)) in
+    ap (splice (at + o) k vs) whole ∙ splice-mid (x ++ p) m (q ++ z) vs (at + o) k l lm ∙ simp append-assoc
+
+encode-append : (f g : List (ℕ × ℕ)) → encode (f ++ g) ≡ encode f ++ encode g
+unfolding encode
+encode-append [] g = refl
+encode-append (x ∷ f) g = ap (λ (s : List ℕ). bytesOf (x .0) (x .1) ++ s) (encode-append f g) ∙ sym (append-assoc (bytesOf (x .0) (x .1)) (encode f) (encode g))
+
+-- an entry's fields before the lease, and behind the stamp
+abbrev before : Entry → List (ℕ × ℕ)
+before e = (1, kindOf (e .established)) ∷ (16, e .address) ∷ (2, e .port) ∷ (8, e .number) ∷ []
+
+abbrev behind : Entry → List ℕ
+behind e =
+    encode ((2, e .qtype) ∷ (2, e .qclass) ∷ (1, length (e .name)) ∷ []) ++ (e .name ++ replicate (280 - length (e .name)) 0)
+
+abbrev times : Entry → List (ℕ × ℕ)
+times e = (4, e .lease) ∷ (4, e .stamp) ∷ []
+
+in-parts : (e : Entry) → slotBytes (held e) ≡ encode (before e) ++ (encode (times e) ++ behind e)
+unfolding slotBytes
+in-parts e =
+    let c : List (ℕ × ℕ) = (2, e .qtype) ∷ (2, e .qclass) ∷ (1, length (e .name)) ∷ [] in
+    let z = e .name ++ replicate (280 - length (e .name)) 0 in
+    ap (λ (s : List ℕ). s ++ z) (encode-append (before e) (times e ++ c) ∙ ap (λ (s : List ℕ). encode (before e) ++ s) (encode-append (times e) c))
+    ∙ simp append-assoc
+
+-- the kind alone, and the rest
+rest : Entry → List (ℕ × ℕ)
+rest e =
+    (16, e .address) ∷ (2, e .port) ∷ (8, e .number) ∷ (4, e .lease) ∷ (4, e .stamp) ∷ (2, e .qtype) ∷ (2, e .qclass) ∷ (1, length (e .name)) ∷ []
+
+kind-small : (v : Bool) → kindOf v < 256
+kind-small true = lit< tt
+kind-small false = lit< tt
+
+by-kind : (e : Entry) → slotBytes (held e) ≡ (kindOf (e .established) ∷ []) ++ (encode (rest e) ++ (e .name ++ replicate (280 - length (e .name)) 0))
+unfolding slotBytes rest
+by-kind e = ap (λ (s : List ℕ). s ++ (e .name ++ replicate (280 - length (e .name)) 0)) (encode-first (kindOf (e .established)) (rest e) (kind-small (e .established)))
+
+module _ (b : List ℕ) (bytes : Bytes b) (laid : Laid b) (i : ℕ) (l : i < slotsIn (length b)) (e : Entry) (here : readSlot b (slotAt i) ≡ held e) where
+  row : part (slotAt i) 320 b ≡ slotBytes (held e)
+  row = sym (laid-slot b bytes laid i l) ∙ ap slotBytes here
+
+  pub establish-bytes : splice (slotAt i) 1 (bytesOf 1 6) b ≡ splice (slotAt i) 320 (slotBytes (held (establish e))) b
+  unfolding rest bytesOf
+  establish-bytes =
+      let z : slotAt i ≡ slotAt i + 0 = omega arith in
+      ap (λ (k : ℕ). splice k 1 (6 ∷ []) b) z
+      ∙ row-edit b [] (kindOf (e .established) ∷ []) (encode (rest e) ++ (e .name ++ replicate (280 - length (e .name)) 0)) (6 ∷ []) (slotAt i) 0 1 320
+      (omega (arith, laid-size b bytes laid)) (row ∙ by-kind e) refl refl
+      ∙ ap (λ (s : List ℕ). splice (slotAt i) 320 s b) (sym (by-kind (establish e)))
+
+  pub renew-bytes : (running asked lease : ℕ) → lease ≡ grantedLease asked
+      → splice (slotAt i + 27) 8 (encode ((4, lease) ∷ (4, running) ∷ [])) b ≡ splice (slotAt i) 320 (slotBytes (held (renew running asked e))) b
+  renew-bytes running asked lease g =
+      row-edit b (encode (before e)) (encode (times e)) (behind e) (encode ((4, lease) ∷ (4, running) ∷ [])) (slotAt i) 27 8 320
+      (omega (arith, laid-size b bytes laid)) (row ∙ in-parts e) (length-encode (before e)) (length-encode (times e))
+      ∙ ap (λ (s : List ℕ). splice (slotAt i) 320 s b)
+      (ap (λ (k : ℕ). encode (before e) ++ (encode ((4, k) ∷ (4, running) ∷ []) ++ behind e)) g ∙ sym (in-parts (renew running asked e)))
+
+pub free-bytes : (s : List ℕ) (a : ℕ) → a + 320 ≤ length s → splice (a + 1) 319 (replicate 319 0) (splice a 1 (bytesOf 1 4) s) ≡ splice a 320 (slotBytes free) s
+unfolding slotBytes bytesOf
+free-bytes s a h = splice-splice a 1 319 (4 ∷ []) (replicate 319 0) s refl (omega arith)
+
+pub unused-bytes : (s : List ℕ) (a : ℕ) → a + 19 ≤ length s → splice (a + 1) 18 (replicate 18 0) (splice a 1 (bytesOf 1 2) s) ≡ splice a 19 unusedLine s
+unfolding unusedLine bytesOf
+unused-bytes s a h = splice-splice a 1 18 (2 ∷ []) (replicate 18 0) s refl (omega arith)

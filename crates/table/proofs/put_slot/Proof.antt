@@ -1,0 +1,33 @@
+-- `table::put_slot` meets its contract. Assumes nothing.
+use native.Mathlib.Omega.{arith}
+use borrow.Author.Needs.{needs}
+use Rattle.table.proofs.EntryLaws as entry
+use Rattle.table.proofs.put_slot.Statement.{statement}
+use Rattle.table.proofs.put_slot.Tie as tie
+use Rattle.table.proofs.put_slot.Reads as reads
+use Rattle.table.proofs.put_slot.Lts as lts
+use Rattle.table.proofs.put_name.Reads as put-name-reads
+use Rattle.table.proofs.put_what.Reads as put-what-reads
+use Rattle.table.proofs.put_who.Reads as put-who-reads
+
+put-who-requires : tie.Need-put-who-requires
+put-who-requires c κs = search needs
+
+put-what-requires : tie.Need-put-what-requires
+put-what-requires c κs = search needs
+
+put-name-requires : tie.Need-put-name-requires
+put-name-requires c κs = search needs
+
+same-length : tie.Need-same-length
+same-length c = search needs
+
+returns : tie.Need-returns
+returns c =
+    let z = c .before .before .before .before .before .before .before .before .before .before .before .before .before .before in
+    rw (c .before .before .put-name .ensures, c .before .before .before .before .before .before .put-what .ensures, c .before .before .before .before .before .before .before .before .before .before .put-who .ensures)
+    (entry.entry-bytes (z .args .s .now) (z .args .e) (z .args .name .now) (omega (arith, z)) (omega (arith, z)))
+
+pub put-slot-spec : {M : Type 1} → statement M
+put-slot-spec =
+    tie.close (tie.spec put-who-requires put-what-requires put-name-requires same-length returns)

@@ -1,0 +1,4 @@
+pub mod Written
+pub mod Stored
+pub mod Sweep
+pub mod Fresh

@@ -1,0 +1,85 @@
+/*
+ * llq.h - DNS Long-Lived Queries (RFC 8764), server side: make a table, tick, serve a datagram.
+ *
+ * The caller owns every buffer and lends it for the length of one call. The library keeps nothing between calls, allocates
+ * nothing and calls nothing back. A call is either done (number 0) or refused by a number; a refused call changes no byte of
+ * any buffer. Numbers in tables, rosters and messages are big endian.
+ *
+ * Proved for all arguments: the answer, every byte of the table and every byte of the reply buffer (docs/STATEMENTS.md).
+ *
+ * Assumed, not proved:
+ *  - the buffers lent to one call do not overlap, and a pointer and its length describe memory of the caller's;
+ *  - `random` is fresh and unpredictable for each datagram: it alone keeps out a sender who cannot see the replies;
+ *  - IPv4 senders come as IPv4-mapped IPv6 addresses (::ffff:a.b.c.d);
+ *  - no two calls run at once on one table, and nobody else writes the table between calls.
+ * Tested, not proved: a NULL pointer with length 0 is taken as an empty buffer.
+ */
+#ifndef LLQ_H
+#define LLQ_H
+
+#include <stddef.h>
+#include <stdint.h>
+
+#ifdef __cplusplus
+extern "C" {
+#endif
+
+/* The number of an answer. Where several conditions hold, the lowest number is given. */
+enum llq_number {
+    LLQ_DONE = 0,
+    LLQ_TABLE = 1,     /* the table is unsound; making: its length is not LLQ_TABLE_SIZE(1) to LLQ_TABLE_SIZE(64) */
+    LLQ_READING = 2,   /* week over 1023 or second over 604799 */
+    LLQ_SIZE = 3,      /* the datagram has under 12 or over 1472 bytes */
+    LLQ_HEADER = 4,    /* QR, OPCODE or TC not 0; QDCOUNT not 1 to 8; ANCOUNT or NSCOUNT not 0; ARCOUNT not 1 */
+    LLQ_QUESTION = 5,  /* a question runs past the end, has a label byte of 64 or more, or a name over 255 bytes */
+    LLQ_OPT = 6,       /* the OPT record or its options are malformed */
+    LLQ_NO_LLQ = 7,    /* no option of code 1 */
+    LLQ_ROOM = 8,      /* the reply would be longer than the lent buffer or than 1472 bytes */
+    LLQ_ROSTER = 9     /* the roster is not 0 to 16 good records */
+};
+
+/* A table of n slots, n from 1 to 64: a clock record of 9 bytes, 16 roster lines of 19 bytes, n slots of 320 bytes. */
+#define LLQ_TABLE_SIZE(n) ((size_t)313 + (size_t)320 * (size_t)(n))
+
+/* A roster record: a byte 0x03, the address (16 bytes), the share (1), the limit (1). */
+#define LLQ_ROSTER_RECORD 19
+
+/* No reply is longer than this. */
+#define LLQ_REPLY_MOST 1472
+
+struct llq_served {
+    uint32_t number; /* LLQ_DONE, or 1 to 8 */
+    uint32_t length; /* bytes of reply written; 0 where refused */
+};
+
+struct llq_ticked {
+    uint32_t number; /* LLQ_DONE, 1 or 2 */
+    uint32_t freed;  /* entries freed because their lease has run out; 0 where refused */
+};
+
+/*
+ * Make a fresh table in `table`, whatever it held. A clock reading is a GPS week of ten bits (0 to 1023) and a second of that
+ * week (0 to 604799). `roster` is 0 to 16 records end to end: addresses differ, share <= limit, limit is 1 to 64, and the
+ * shares sum to at most the number of slots, which `table_len` gives. An address that is not listed has share 0 and limit 4.
+ * Returns LLQ_DONE, 1, 2 or 9. Refused: the table keeps every byte.
+ */
+uint32_t llq_make(uint32_t week, uint32_t second, uint8_t *table, size_t table_len, const uint8_t *roster, size_t roster_len);
+
+/* Move the table's clock to the reading and free the entries whose lease has run out. */
+struct llq_ticked llq_tick(uint32_t week, uint32_t second, uint8_t *table, size_t table_len);
+
+/*
+ * Serve one datagram: move the clock, free run-out entries, do each LLQ option in order, and write the reply.
+ * address_high and address_low are the two halves of the sender's 16-byte address, port its UDP port. `random` is where the
+ * search for an unused LLQ number starts. On LLQ_DONE send `length` bytes of `reply` to the sender; bytes of `reply` past
+ * them keep what they held. Refused: table and reply keep every byte, and nothing is to be sent.
+ */
+struct llq_served llq_serve(uint32_t week, uint32_t second, uint64_t address_high, uint64_t address_low, uint16_t port,
+                            uint64_t random, const uint8_t *datagram, size_t datagram_len, uint8_t *table, size_t table_len,
+                            uint8_t *reply, size_t reply_len);
+
+#ifdef __cplusplus
+}
+#endif
+
+#endif
