@@ -1,0 +1,199 @@
+//! What a run has met: how many calls gave each number, how many options each
+//! error, and the places that a run must reach to be worth its name.
+
+use crate::tally::Case;
+use std::fmt;
+
+/// Places on a rule's edge.
+#[derive(Clone, Copy, PartialEq, Eq, Debug)]
+pub enum Mark {
+    StepZero,
+    StepLongest,
+    StepMostNegative,
+    StepNegative,
+    CycleRolledOver,
+    CountWrapped,
+    LiveAcrossWrap,
+    OneSecondLeft,
+    SeveralFreed,
+    PendingFreed,
+    NumberZeroPassedOver,
+    NumberInUsePassedOver,
+    NumberWrapped,
+    LongestReply,
+    ReplyTooLong,
+    BufferExact,
+    BufferOneShort,
+    LongestDatagram,
+    DatagramTooLong,
+    LongestName,
+    NameFolded,
+    NameBytesPast127,
+    EightQuestions,
+    NineOptions,
+    Options256,
+    NumberFreedAndGranted,
+    SlotFreedAndTaken,
+    MismatchFrees,
+    CountWrappedByCalls,
+    AllSlotsTaken,
+    SixtyFourEntries,
+    OneSlot,
+    SixtyFourSlots,
+    SixteenLines,
+    MadeOverEntries,
+    Unsound,
+}
+
+impl Mark {
+    pub const ALL: [(Mark, &'static str); 36] = [
+        (Mark::StepZero, "step of 0"),
+        (Mark::StepLongest, "step of +309,657,599"),
+        (Mark::StepMostNegative, "step of -309,657,600"),
+        (Mark::StepNegative, "other negative step"),
+        (Mark::CycleRolledOver, "week counter rolled over"),
+        (Mark::CountWrapped, "running count wrapped"),
+        (Mark::LiveAcrossWrap, "entry live across the wrap"),
+        (Mark::OneSecondLeft, "entry with one second left"),
+        (Mark::SeveralFreed, "several entries freed at once"),
+        (Mark::PendingFreed, "pending entry freed"),
+        (Mark::NumberZeroPassedOver, "number 0 passed over"),
+        (Mark::NumberInUsePassedOver, "number in use passed over"),
+        (Mark::NumberWrapped, "number search wrapped"),
+        (Mark::LongestReply, "reply of 1,472 bytes"),
+        (Mark::ReplyTooLong, "reply over 1,472 bytes refused"),
+        (Mark::BufferExact, "reply buffer just long enough"),
+        (Mark::BufferOneShort, "reply buffer one byte short"),
+        (Mark::LongestDatagram, "datagram of 1,472 bytes answered"),
+        (Mark::DatagramTooLong, "datagram of 1,473 bytes refused"),
+        (Mark::LongestName, "name of 255 bytes held"),
+        (Mark::NameFolded, "mixed-case name granted"),
+        (Mark::NameBytesPast127, "name with bytes past 127 held"),
+        (Mark::EightQuestions, "eight questions answered"),
+        (Mark::NineOptions, "nine options of length 18 answered"),
+        (Mark::Options256, "more than 255 options answered"),
+        (Mark::NumberFreedAndGranted, "number freed and granted at once"),
+        (Mark::SlotFreedAndTaken, "last slot freed and taken at once"),
+        (Mark::MismatchFrees, "mismatch that frees entries"),
+        (Mark::CountWrappedByCalls, "running count wrapped by calls alone"),
+        (Mark::AllSlotsTaken, "all slots taken"),
+        (Mark::SixtyFourEntries, "64 entries held"),
+        (Mark::OneSlot, "n = 1"),
+        (Mark::SixtyFourSlots, "n = 64"),
+        (Mark::SixteenLines, "16 roster lines"),
+        (Mark::MadeOverEntries, "making over entries"),
+        (Mark::Unsound, "unsound table refused"),
+    ];
+}
+
+#[derive(Clone)]
+pub struct Coverage {
+    pub calls: u64,
+    pub makings: [u64; 10],
+    pub ticks: [u64; 10],
+    pub datagrams: [u64; 10],
+    pub errors: [u64; 7],
+    pub cases: [u64; Case::ALL.len()],
+    pub marks: [u64; Mark::ALL.len()],
+}
+
+impl Default for Coverage {
+    fn default() -> Self {
+        Coverage {
+            calls: 0,
+            makings: [0; 10],
+            ticks: [0; 10],
+            datagrams: [0; 10],
+            errors: [0; 7],
+            cases: [0; Case::ALL.len()],
+            marks: [0; Mark::ALL.len()],
+        }
+    }
+}
+
+impl Coverage {
+    pub fn case(&mut self, case: Case) {
+        self.cases[case as usize] += 1;
+        self.errors[usize::from(case.error())] += 1;
+    }
+
+    pub fn mark(&mut self, mark: Mark, met: bool) {
+        self.marks[mark as usize] += u64::from(met);
+    }
+
+    /// What the run has never met of what it must meet.
+    pub fn missing(&self) -> Vec<String> {
+        let mut missing = Vec::new();
+        for number in 0..10 {
+            if self.makings[number] + self.ticks[number] + self.datagrams[number] == 0 {
+                missing.push(format!("number {number}"));
+            }
+        }
+        for (calls, name, given) in [
+            (&self.makings, "making", &[0, 1, 2, 9][..]),
+            (&self.ticks, "tick", &[0, 1, 2]),
+            (&self.datagrams, "datagram", &[0, 1, 2, 3, 4, 5, 6, 7, 8]),
+        ] {
+            for &number in given.iter().filter(|&&number| calls[number] == 0) {
+                missing.push(format!("{name} with number {number}"));
+            }
+        }
+        for error in [0, 1, 3, 4, 5] {
+            if self.errors[error] == 0 {
+                missing.push(format!("error {error}"));
+            }
+        }
+        for case in Case::ALL {
+            if self.cases[case as usize] == 0 {
+                missing.push(format!("case {case:?}"));
+            }
+        }
+        for (mark, name) in Mark::ALL {
+            if self.marks[mark as usize] == 0 {
+                missing.push(name.into());
+            }
+        }
+        missing
+    }
+}
+
+impl fmt::Display for Coverage {
+    fn fmt(&self, to: &mut fmt::Formatter) -> fmt::Result {
+        writeln!(to, "number      making        tick    datagram")?;
+        for number in 0..10 {
+            writeln!(
+                to,
+                "{number:6}{:12}{:12}{:12}",
+                self.makings[number], self.ticks[number], self.datagrams[number]
+            )?;
+        }
+        writeln!(to, "options by error:")?;
+        for (error, count) in self.errors.iter().enumerate() {
+            writeln!(to, "  {error:<34}{count:10}")?;
+        }
+        writeln!(to, "options by case:")?;
+        for case in Case::ALL {
+            writeln!(to, "  {:<34}{:10}", format!("{case:?}"), self.cases[case as usize])?;
+        }
+        writeln!(to, "calls by mark:")?;
+        for (mark, name) in Mark::ALL {
+            writeln!(to, "  {name:<34}{:10}", self.marks[mark as usize])?;
+        }
+        Ok(())
+    }
+}
+
+#[cfg(test)]
+mod tests {
+    use super::*;
+
+    #[test]
+    fn lists_are_in_order() {
+        for (at, case) in Case::ALL.into_iter().enumerate() {
+            assert_eq!(case as usize, at);
+        }
+        for (at, (mark, _)) in Mark::ALL.into_iter().enumerate() {
+            assert_eq!(mark as usize, at);
+        }
+    }
+}

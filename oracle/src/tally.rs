@@ -1,0 +1,475 @@
+//! Document 01's tally of demand 3, worked out from the calls' arguments alone.
+//! Its rules are spelled out here once more, plainly, and share nothing with
+//! the calls: whole numbers for ages, a list of holdings, no slots.
+
+pub mod datagram;
+pub mod table;
+
+use datagram::{Datagram, Sent};
+
+#[derive(Clone, PartialEq, Eq, PartialOrd, Ord, Debug)]
+pub struct Line {
+    pub address: [u8; 16],
+    pub share: usize,
+    pub limit: usize,
+}
+
+#[derive(Clone, PartialEq, Eq, PartialOrd, Ord, Debug)]
+pub struct Question {
+    /// Folded, its final zero included.
+    pub name: Vec<u8>,
+    pub qtype: u16,
+    pub qclass: u16,
+}
+
+#[derive(Clone, PartialEq, Eq, PartialOrd, Ord, Debug)]
+pub struct Holding {
+    pub address: [u8; 16],
+    pub port: u16,
+    pub question: Question,
+    pub number: u64,
+    pub lease: u64,
+    pub age: u64,
+    pub established: bool,
+}
+
+#[derive(Clone, PartialEq, Eq, Debug)]
+pub struct Tally {
+    pub place: i64,
+    pub count: u64,
+    /// n
+    pub slots: usize,
+    pub roster: Vec<Line>,
+    pub holdings: Vec<Holding>,
+}
+
+/// What a call is told, as far as the tally settles it.
+#[derive(Clone, PartialEq, Eq, Debug, Default)]
+pub struct Answer {
+    pub number: u32,
+    pub freed: usize,
+    pub reply: Vec<u8>,
+    /// What became of each option of the reply.
+    pub cases: Vec<Case>,
+}
+
+/// What becomes of an option.
+#[derive(Clone, Copy, PartialEq, Eq, Hash, Debug)]
+pub enum Case {
+    /// The one option of a query that fails the count and length test.
+    Mismatch,
+    BadVersion,
+    BadFormat,
+    /// A setup that finds a holding.
+    Found,
+    /// Full: the address is at its limit.
+    FullAtLimit,
+    /// Full: the address has reached its share, and no slot is free.
+    FullNoneFree,
+    /// Full: the address has reached its share, and every free slot is reserved.
+    FullReserved,
+    Granted,
+    /// Granted below its share, where anyone else would be told full.
+    GrantedFromReserve,
+    /// A right response to a pending holding, and to an established one.
+    Established,
+    EstablishedAgain,
+    NoResponse,
+    /// A right refresh with a lease, and with lease 0.
+    Renewed,
+    Ended,
+    NoRefresh,
+    /// A refresh right but for its holding, which is pending.
+    NoRefreshPending,
+}
+
+impl Case {
+    pub const ALL: [Case; 16] = [
+        Case::Mismatch,
+        Case::BadVersion,
+        Case::BadFormat,
+        Case::Found,
+        Case::FullAtLimit,
+        Case::FullNoneFree,
+        Case::FullReserved,
+        Case::Granted,
+        Case::GrantedFromReserve,
+        Case::Established,
+        Case::EstablishedAgain,
+        Case::NoResponse,
+        Case::Renewed,
+        Case::Ended,
+        Case::NoRefresh,
+        Case::NoRefreshPending,
+    ];
+
+    /// Told "full".
+    pub fn is_full(self) -> bool {
+        matches!(self, Case::FullAtLimit | Case::FullNoneFree | Case::FullReserved)
+    }
+
+    pub fn error(self) -> u16 {
+        match self {
+            Case::Mismatch | Case::BadFormat => 3,
+            Case::BadVersion => 5,
+            Case::FullAtLimit | Case::FullNoneFree | Case::FullReserved => 1,
+            Case::NoResponse | Case::NoRefresh | Case::NoRefreshPending => 4,
+            Case::Found | Case::Granted | Case::GrantedFromReserve => 0,
+            Case::Established | Case::EstablishedAgain | Case::Renewed | Case::Ended => 0,
+        }
+    }
+}
+
+impl Answer {
+    fn refused(number: u32) -> Answer {
+        Answer { number, ..Answer::default() }
+    }
+}
+
+/// The sender of a datagram: address and port.
+pub type From = ([u8; 16], u16);
+
+/// Week and second to a place, or nothing if one is too large.
+fn place_of(week: u32, second: u32) -> Option<i64> {
+    if week > 1_023 || second > 604_799 {
+        None
+    } else {
+        Some(i64::from(week) * 604_800 + i64::from(second))
+    }
+}
+
+/// n by the buffer's length.
+pub fn slots_by_length(length: usize) -> Option<usize> {
+    (1..=64).find(|n| 313 + 320 * n == length)
+}
+
+/// The roster rules: addresses differ, share at most limit, limit 1 to 64, shares at most n in all.
+pub fn roster_is_right(roster: &[Line], slots: usize) -> bool {
+    let mut addresses: Vec<_> = roster.iter().map(|line| line.address).collect();
+    addresses.sort();
+    addresses.dedup();
+    addresses.len() == roster.len()
+        && roster.iter().all(|line| line.share <= line.limit && line.limit >= 1 && line.limit <= 64)
+        && roster.iter().map(|line| line.share).sum::<usize>() <= slots
+}
+
+/// The roster that a making gives: 0 to 16 records of kind 0x03.
+fn roster_given(bytes: &[u8], slots: usize) -> Option<Vec<Line>> {
+    if !bytes.len().is_multiple_of(19) || bytes.len() / 19 > 16 {
+        return None;
+    }
+    let mut roster = Vec::new();
+    for record in bytes.chunks(19) {
+        if record[0] != 3 {
+            return None;
+        }
+        let mut address = [0; 16];
+        address.copy_from_slice(&record[1..17]);
+        roster.push(Line { address, share: record[17] as usize, limit: record[18] as usize });
+    }
+    roster_is_right(&roster, slots).then_some(roster)
+}
+
+/// The lease asked for, but at least 60 and at most 7,200.
+fn lease_for(asked: u32) -> u64 {
+    match asked {
+        0..60 => 60,
+        60..=7_200 => asked.into(),
+        _ => 7_200,
+    }
+}
+
+/// A making. `known` is the tally so far, or nothing while the buffer holds no sound table.
+pub fn make(
+    known: &mut Option<Tally>,
+    week: u32,
+    second: u32,
+    table_length: usize,
+    roster: &[u8],
+) -> Answer {
+    let Some(slots) = slots_by_length(table_length) else {
+        return Answer::refused(1);
+    };
+    let Some(place) = place_of(week, second) else {
+        return Answer::refused(2);
+    };
+    let Some(roster) = roster_given(roster, slots) else {
+        return Answer::refused(9);
+    };
+    *known = Some(Tally { place, count: 0, slots, roster, holdings: Vec::new() });
+    Answer::default()
+}
+
+/// A tick.
+pub fn tick(known: &mut Option<Tally>, week: u32, second: u32) -> Answer {
+    let Some(tally) = known else {
+        return Answer::refused(1);
+    };
+    let Some(place) = place_of(week, second) else {
+        return Answer::refused(2);
+    };
+    let freed = tally.move_clock(place);
+    Answer { freed, ..Answer::default() }
+}
+
+/// A datagram, lent a reply buffer of this length.
+pub fn serve(
+    known: &mut Option<Tally>,
+    week: u32,
+    second: u32,
+    from: From,
+    random: u64,
+    bytes: &[u8],
+    reply_length: usize,
+) -> Answer {
+    let Some(tally) = known else {
+        return Answer::refused(1);
+    };
+    let Some(place) = place_of(week, second) else {
+        return Answer::refused(2);
+    };
+    let datagram = match datagram::read(bytes) {
+        Ok(datagram) => datagram,
+        Err(number) => return Answer::refused(number),
+    };
+    let sent = datagram.options_by_question();
+    let replied = sent.as_ref().map_or(1, Vec::len);
+    let length = 12 + datagram.question_bytes.len() + 11 + 22 * replied;
+    if length > reply_length || length > 1_472 {
+        return Answer::refused(8);
+    }
+    let freed = tally.move_clock(place);
+    let mut options = Vec::new();
+    match sent {
+        None => options.push((1, told(Case::Mismatch, 0, 0))),
+        Some(sent) => {
+            for (question, sent) in datagram.questions.iter().zip(&sent) {
+                options.push((sent.opcode, tally.option(from, random, question, sent)));
+            }
+        }
+    }
+    let cases = options.iter().map(|(_, told)| told.case).collect();
+    Answer { number: 0, freed, reply: reply(&datagram, &options), cases }
+}
+
+/// What an option of the reply says.
+struct Told {
+    case: Case,
+    number: u64,
+    lease: u64,
+}
+
+fn told(case: Case, number: u64, lease: u64) -> Told {
+    Told { case, number, lease }
+}
+
+impl Tally {
+    fn move_clock(&mut self, place: i64) -> usize {
+        let mut step = place - self.place;
+        while step < -309_657_600 {
+            step += 619_315_200;
+        }
+        while step > 309_657_599 {
+            step -= 619_315_200;
+        }
+        if step >= 0 {
+            self.place = place;
+            self.count = (self.count + step as u64) % 4_294_967_296;
+            for holding in &mut self.holdings {
+                holding.age += step as u64;
+            }
+        }
+        let before = self.holdings.len();
+        self.holdings.retain(|holding| holding.age < holding.lease);
+        before - self.holdings.len()
+    }
+
+    fn held(&self, address: [u8; 16]) -> usize {
+        self.holdings.iter().filter(|holding| holding.address == address).count()
+    }
+
+    pub fn share_and_limit(&self, address: [u8; 16]) -> (usize, usize) {
+        for line in &self.roster {
+            if line.address == address {
+                return (line.share, line.limit);
+            }
+        }
+        (0, 4)
+    }
+
+    fn free(&self) -> usize {
+        self.slots - self.holdings.len()
+    }
+
+    fn reserve(&self) -> usize {
+        let mut sum = 0;
+        for line in &self.roster {
+            let held = self.held(line.address);
+            if line.share > held {
+                sum += line.share - held;
+            }
+        }
+        sum
+    }
+
+    /// The holding of this sender and question.
+    fn holding(&self, from: From, question: &Question) -> Option<usize> {
+        self.holdings.iter().position(|holding| {
+            (holding.address, holding.port) == from && holding.question == *question
+        })
+    }
+
+    fn option(&mut self, from: From, random: u64, question: &Question, sent: &Sent) -> Told {
+        let repeated = if sent.opcode == 2 { sent.number } else { 0 };
+        if sent.version != 1 {
+            return told(Case::BadVersion, repeated, 0);
+        }
+        if sent.error != 0 || (sent.opcode != 1 && sent.opcode != 2) {
+            return told(Case::BadFormat, repeated, 0);
+        }
+        let found = self.holding(from, question);
+        match (sent.opcode, sent.number, found) {
+            (1, 0, Some(at)) => {
+                let holding = &self.holdings[at];
+                told(Case::Found, holding.number, holding.lease)
+            }
+            (1, 0, None) => self.new_question(from, random, question, sent),
+            (1, _, found) => self.response(found, sent),
+            (_, _, found) => self.refresh(found, sent),
+        }
+    }
+
+    /// A well-formed setup that finds no holding: full, or a pending holding of age 0.
+    fn new_question(&mut self, from: From, random: u64, question: &Question, sent: &Sent) -> Told {
+        let held = self.held(from.0);
+        let (share, limit) = self.share_and_limit(from.0);
+        let free = self.free();
+        if held >= limit {
+            return told(Case::FullAtLimit, 0, 60);
+        }
+        let all_reserved = free <= self.reserve();
+        if held >= share && all_reserved {
+            return told(if free == 0 { Case::FullNoneFree } else { Case::FullReserved }, 0, 60);
+        }
+        let lease = lease_for(sent.lease);
+        let number = (0..=65)
+            .map(|more| ((u128::from(random) + more) % (1 << 64)) as u64)
+            .find(|&number| number != 0 && self.holdings.iter().all(|h| h.number != number))
+            .expect("at most 64 numbers are in use");
+        self.holdings.push(Holding {
+            address: from.0,
+            port: from.1,
+            question: question.clone(),
+            number,
+            lease,
+            age: 0,
+            established: false,
+        });
+        told(if all_reserved { Case::GrantedFromReserve } else { Case::Granted }, number, lease)
+    }
+
+    fn response(&mut self, found: Option<usize>, sent: &Sent) -> Told {
+        if let Some(at) = found {
+            let holding = &mut self.holdings[at];
+            if holding.number == sent.number && holding.lease == u64::from(sent.lease) {
+                let again = holding.established;
+                holding.established = true;
+                let case = if again { Case::EstablishedAgain } else { Case::Established };
+                return told(case, holding.number, holding.lease - holding.age);
+            }
+        }
+        told(Case::NoResponse, 0, 0)
+    }
+
+    fn refresh(&mut self, found: Option<usize>, sent: &Sent) -> Told {
+        let Some(at) = found.filter(|&at| self.holdings[at].number == sent.number) else {
+            return told(Case::NoRefresh, sent.number, 0);
+        };
+        let holding = &mut self.holdings[at];
+        if !holding.established {
+            return told(Case::NoRefreshPending, sent.number, 0);
+        }
+        if sent.lease == 0 {
+            self.holdings.remove(at);
+            return told(Case::Ended, sent.number, 0);
+        }
+        holding.lease = lease_for(sent.lease);
+        holding.age = 0;
+        told(Case::Renewed, sent.number, holding.lease)
+    }
+}
+
+/// The reply's bytes, one part after another.
+fn reply(datagram: &Datagram, options: &[(u16, Told)]) -> Vec<u8> {
+    let mut bytes = datagram.message.to_vec();
+    bytes.push(if datagram.recursion_desired { 0x85 } else { 0x84 });
+    bytes.push(0);
+    bytes.extend([0, datagram.questions.len() as u8, 0, 0, 0, 0, 0, 1]);
+    bytes.extend(&datagram.question_bytes);
+    bytes.extend([0, 0, 41, 0x05, 0xC0, 0, 0, 0, 0]);
+    bytes.extend((22 * options.len() as u16).to_be_bytes());
+    for (opcode, told) in options {
+        bytes.extend([0, 1, 0, 18, 0, 1]);
+        bytes.extend(opcode.to_be_bytes());
+        bytes.extend(told.case.error().to_be_bytes());
+        bytes.extend(told.number.to_be_bytes());
+        bytes.extend((told.lease as u32).to_be_bytes());
+    }
+    bytes
+}
+
+#[cfg(test)]
+mod tests {
+    use super::*;
+
+    fn holding(lease: u64, age: u64) -> Holding {
+        let question = Question { name: vec![0], qtype: 1, qclass: 1 };
+        Holding { address: [0; 16], port: 0, question, number: 1, lease, age, established: false }
+    }
+
+    #[test]
+    fn ages_are_whole_numbers() {
+        let mut tally = Tally {
+            place: 619_315_199,
+            count: 4_294_967_295,
+            slots: 2,
+            roster: vec![],
+            holdings: vec![holding(60, 0), holding(61, 0)],
+        };
+        assert_eq!(tally.move_clock(0), 0);
+        assert_eq!((tally.place, tally.count, tally.holdings[0].age), (0, 0, 1));
+        assert_eq!(tally.move_clock(309_657_600), 0);
+        assert_eq!((tally.place, tally.count), (0, 0));
+        assert_eq!(tally.move_clock(59), 1);
+        assert_eq!(tally.holdings, [holding(61, 60)]);
+        assert_eq!(tally.move_clock(309_657_599), 1);
+    }
+
+    #[test]
+    fn a_making_begins_anew() {
+        let mut known = None;
+        assert_eq!(tick(&mut known, 0, 0).number, 1);
+        assert_eq!(make(&mut known, 0, 0, 313, &[]).number, 1);
+        assert_eq!(make(&mut known, 1_024, 0, 633, &[]).number, 2);
+        assert_eq!(make(&mut known, 0, 0, 633, &[3]).number, 9);
+        assert_eq!(known, None);
+        assert_eq!(make(&mut known, 1, 2, 633, &[]).number, 0);
+        let made = Tally { place: 604_802, count: 0, slots: 1, roster: vec![], holdings: vec![] };
+        assert_eq!(known, Some(made));
+    }
+
+    #[test]
+    fn tables_read_as_tallies() {
+        let mut known = None;
+        let mut bytes = vec![7; 313 + 3 * 320];
+        assert_eq!(table::read(&bytes), None);
+        let mut roster = [0; 19];
+        roster[0] = 3;
+        roster[17..].copy_from_slice(&[1, 2]);
+        make(&mut known, 3, 4, bytes.len(), &roster);
+        assert_eq!(crate::make(3, 4, &mut bytes, &roster), 0);
+        assert_eq!(table::read(&bytes), known);
+        bytes[400] = 1;
+        assert_eq!(table::read(&bytes), None);
+    }
+}

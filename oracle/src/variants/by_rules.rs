@@ -1,0 +1,412 @@
+//! Variants with one rule put in another's place, or blind to one fault.
+
+use super::Named;
+use crate::calls::{self, Served, Ticked};
+use crate::clock::{self, Clock, CYCLE};
+use crate::fault::Fault;
+use crate::query::{LlqNumber, LlqOption, Question, Sender};
+use crate::rules::{error, Allowance, Law, Rules, UNLISTED};
+use crate::server::Server;
+use crate::table::{Entry, Table};
+use std::cell::Cell;
+use Wrong::*;
+
+macro_rules! wrong {
+    ($($(#[$said:meta])* $name:ident)*) => {
+        /// What is wrong.
+        #[derive(Clone, Copy, PartialEq, Eq, Debug)]
+        enum Wrong {
+            /// A fault goes unseen.
+            BlindTo(Fault),
+            $($(#[$said])* $name,)*
+        }
+
+        const WRONG: &[Wrong] = &[$($name),*];
+    };
+}
+
+wrong! {
+    // The old box's five faults.
+    /// The count is compared with stamp plus lease, so that a wrap kills live entries.
+    OldBoxStampPlusLease
+    /// Whenever a slot is free it is granted.
+    OldBoxNoReserve
+    /// Entries are found by number alone.
+    OldBoxNumberAlone
+    /// Pending entries are thrown out after half of their lease.
+    OldBoxPendingEarly
+    /// Holdings count by address and port.
+    OldBoxHoldingsByPort
+
+    // Document 01's impostor.
+    FullToEveryone
+
+    // The clock.
+    /// Half a cycle is a step forward.
+    StepTieForward
+    /// The longest step forward is one backward.
+    StepLongestBackward
+    /// A negative step's place is kept.
+    StepBackKeepsPlace
+    /// A negative step is added to the count as well.
+    StepBackCounts
+    /// The week counter's roll-over is not seen.
+    StepNoRollOver
+    /// The running count stops at its end.
+    CountSaturates
+    /// The running count wraps at 2^31.
+    CountOf31Bits
+    /// Run out one second late.
+    RunOutLate
+    /// Run out one second early.
+    RunOutEarly
+    RunOutNever
+    RunOutEstablishedOnly
+
+    // Names and questions.
+    FoldNothing
+    /// Latin-1 letters are folded too.
+    FoldPast127
+    FoldBeforeA
+    FoldAfterZ
+    FoldNotZ
+    /// The byte before a name's final zero is not compared.
+    NameButForItsLastByte
+    NameFirst64Bytes
+    NameLength
+    HoldingAnyType
+    HoldingAnyClass
+    HoldingAnyPort
+    HoldingLowHalfOfAddress
+    /// A setup does not find established entries.
+    SetupFindsPendingOnly
+
+    // Response and refresh.
+    ResponseAnyLease
+    ResponseLeaseOf16Bits
+    ResponseLeaseAtMost
+    ResponseAnyNumber
+    ResponseNumberLowHalf
+    ResponseNumberHighHalf
+    ResponseAnyQuestion
+    ResponseAnyPort
+    ResponseAnyAddress
+    ResponsePendingOnly
+    RefreshPendingToo
+    RefreshAnyNumber
+    RefreshNumberLowHalf
+    RefreshAnyPort
+    RefreshAnyAddress
+    RefreshAnyQuestion
+
+    // Shares, limits and the reserve.
+    HeldByLowHalf
+    HeldByHighHalf
+    UnlistedLimitFive
+    UnlistedNoLimit
+    /// The last of sixteen lines is not looked at.
+    FifteenLines
+    /// Whole shares are reserved, whatever is held of them.
+    ReserveWholeShares
+    /// A line that holds more than its share lowers the reserve.
+    ReserveNegative
+    FullFreeUnderReserve
+    FullOverLimit
+    FullNoLimit
+    FullOverShare
+    /// An address below its share is told "full".
+    FullBelowShare
+
+    // Grants.
+    HighestFreeSlot
+    LeaseNotRaised
+    LeaseNotLowered
+    LeaseOf61
+    LeaseOf7201
+    NumberZeroGranted
+    NumberInUseGranted
+    NumberDownwards
+    /// The search ends one number further on.
+    NumberOneFurther
+
+    // Options that are not well-formed.
+    FormatBeforeVersion
+    AnyVersion
+    AnyError
+    OpcodeThreeRead
+    BadOpcodeUnknown
+}
+
+thread_local! {
+    static NOW: Cell<Wrong> = const { Cell::new(FullToEveryone) };
+}
+
+fn now() -> Wrong {
+    NOW.get()
+}
+
+/// The rules with the one wrong that is wrong now.
+struct Bent;
+
+impl Rules for Bent {
+    fn faulty(fault: Fault, found: bool) -> bool {
+        found && now() != BlindTo(fault)
+    }
+
+    fn moved(clock: Clock, place: u32) -> Clock {
+        let right = clock.moved(place);
+        let step = clock::step(clock.place, place);
+        let ahead = (place + CYCLE).wrapping_sub(clock.place) % CYCLE;
+        let forward = Clock { place, count: clock.count.wrapping_add(ahead) };
+        match now() {
+            StepTieForward if ahead == CYCLE / 2 => forward,
+            StepLongestBackward if ahead == CYCLE / 2 - 1 => clock,
+            StepBackKeepsPlace => Clock { place, ..right },
+            StepBackCounts => Clock { place, count: clock.count.wrapping_add(step as u32) },
+            StepNoRollOver if place < clock.place => clock,
+            CountSaturates if step >= 0 => {
+                Clock { place, count: clock.count.saturating_add(step as u32) }
+            }
+            CountOf31Bits if step > 0 => Clock { place, count: right.count & 0x7FFF_FFFF },
+            _ => right,
+        }
+    }
+
+    fn run_out(entry: Entry, count: u32) -> bool {
+        let (age, lease) = (entry.age(count), entry.lease());
+        match now() {
+            OldBoxStampPlusLease => count >= entry.stamp().wrapping_add(lease),
+            OldBoxPendingEarly if !entry.is_established() => age >= lease / 2,
+            RunOutLate => age > lease,
+            RunOutEarly => age >= lease - 1,
+            RunOutNever => false,
+            RunOutEstablishedOnly if !entry.is_established() => false,
+            _ => Law::run_out(entry, count),
+        }
+    }
+
+    fn fold(byte: u8) -> u8 {
+        match (now(), byte) {
+            (FoldNothing, _) => byte,
+            (FoldPast127, 0xC0..=0xD6 | 0xD8..=0xDE) => byte + 0x20,
+            (FoldBeforeA, b'@') => b'`',
+            (FoldAfterZ, b'[') => b'{',
+            (FoldNotZ, b'Z') => byte,
+            _ => Law::fold(byte),
+        }
+    }
+
+    fn same_name(stored: &[u8], received: &[u8]) -> bool {
+        let mut pairs = stored.iter().zip(received);
+        let same = |(&stored, &byte): (&u8, &u8)| stored == Self::fold(byte);
+        stored.len() == received.len()
+            && match now() {
+                NameButForItsLastByte => pairs.rev().skip(2).all(same),
+                NameFirst64Bytes => pairs.take(64).all(same),
+                NameLength => true,
+                _ => pairs.all(same),
+            }
+    }
+
+    fn same_holding(entry: Entry, sender: Sender, question: &Question) -> bool {
+        let wrong = now();
+        (entry.address() == sender.address
+            || wrong == HoldingLowHalfOfAddress && entry.address() as u64 == sender.address as u64)
+            && (entry.port() == sender.port || wrong == HoldingAnyPort)
+            && (entry.qtype() == question.qtype || wrong == HoldingAnyType)
+            && (entry.qclass() == question.qclass || wrong == HoldingAnyClass)
+            && Self::same_name(entry.name(), question.name)
+    }
+
+    fn setup_finds(entry: Entry, sender: Sender, question: &Question) -> bool {
+        (!entry.is_established() || now() != SetupFindsPendingOnly)
+            && Self::same_holding(entry, sender, question)
+    }
+
+    fn response_finds(
+        entry: Entry,
+        sender: Sender,
+        question: &Question,
+        number: LlqNumber,
+    ) -> bool {
+        let same_number = entry.number() == number;
+        let same_holding = Self::same_holding(entry, sender, question);
+        let (held, sent) = (entry.number().0, number.0);
+        match now() {
+            OldBoxNumberAlone => same_number,
+            ResponseAnyNumber => same_holding,
+            ResponseNumberLowHalf => same_holding && held as u32 == sent as u32,
+            ResponseNumberHighHalf => same_holding && held >> 32 == sent >> 32,
+            ResponseAnyQuestion => same_number && same_sender(entry, sender),
+            ResponseAnyPort => same_number && with_any_port(entry, sender, question),
+            ResponseAnyAddress => same_number && with_any_address(entry, sender, question),
+            ResponsePendingOnly if entry.is_established() => false,
+            _ => same_number && same_holding,
+        }
+    }
+
+    fn response_lease(entry: Entry, sent: u32) -> bool {
+        match now() {
+            ResponseAnyLease => true,
+            ResponseLeaseOf16Bits => entry.lease() as u16 == sent as u16,
+            ResponseLeaseAtMost => sent <= entry.lease(),
+            _ => Law::response_lease(entry, sent),
+        }
+    }
+
+    fn refresh_finds(entry: Entry, sender: Sender, question: &Question, number: LlqNumber) -> bool {
+        let same_number = entry.number() == number;
+        let same_holding = Self::same_holding(entry, sender, question);
+        let established = entry.is_established();
+        match now() {
+            OldBoxNumberAlone => established && same_number,
+            RefreshPendingToo => same_number && same_holding,
+            RefreshAnyNumber => established && same_holding,
+            RefreshNumberLowHalf => {
+                established && same_holding && entry.number().0 as u32 == number.0 as u32
+            }
+            RefreshAnyPort => established && same_number && with_any_port(entry, sender, question),
+            RefreshAnyAddress => {
+                established && same_number && with_any_address(entry, sender, question)
+            }
+            RefreshAnyQuestion => established && same_number && same_sender(entry, sender),
+            _ => established && same_number && same_holding,
+        }
+    }
+
+    fn holds(entry: Entry, sender: Sender) -> bool {
+        match now() {
+            OldBoxHoldingsByPort => same_sender(entry, sender),
+            HeldByLowHalf => entry.address() as u64 == sender.address as u64,
+            HeldByHighHalf => entry.address() >> 64 == sender.address >> 64,
+            _ => Law::holds(entry, sender),
+        }
+    }
+
+    fn allowance(table: &Table, address: u128) -> Allowance {
+        let listed = table.listed().position(|line| line.address() == address);
+        match (now(), listed) {
+            (UnlistedLimitFive, None) => Allowance { limit: 5, ..UNLISTED },
+            (UnlistedNoLimit, None) => Allowance { limit: 64, ..UNLISTED },
+            (FifteenLines, Some(15)) => UNLISTED,
+            _ => Law::allowance(table, address),
+        }
+    }
+
+    fn owed(share: u32, held: u32) -> i32 {
+        match now() {
+            ReserveWholeShares => share as i32,
+            ReserveNegative => share as i32 - held as i32,
+            _ => Law::owed(share, held),
+        }
+    }
+
+    fn full(held: u32, allowed: Allowance, free: i32, reserve: i32) -> bool {
+        let Allowance { share, limit } = allowed;
+        match now() {
+            OldBoxNoReserve => held >= limit || free == 0,
+            FullToEveryone => true,
+            FullFreeUnderReserve => held >= limit || held >= share && free < reserve,
+            FullOverLimit => held > limit || held >= share && free <= reserve,
+            FullNoLimit => held >= share && free <= reserve,
+            FullOverShare => held >= limit || held > share && free <= reserve,
+            FullBelowShare => held >= limit || free <= reserve,
+            _ => Law::full(held, allowed, free, reserve),
+        }
+    }
+
+    fn slot(table: &Table) -> Option<usize> {
+        match now() {
+            HighestFreeSlot => (0..table.slots.len()).rev().find(|&slot| table.is_free(slot)),
+            _ => Law::slot(table),
+        }
+    }
+
+    fn granted(asked: u32) -> u32 {
+        match now() {
+            LeaseNotRaised => asked.min(7_200),
+            LeaseNotLowered => asked.max(60),
+            LeaseOf61 => asked.clamp(61, 7_200),
+            LeaseOf7201 => asked.clamp(60, 7_201),
+            _ => Law::granted(asked),
+        }
+    }
+
+    fn number(r: u64, in_use: impl Fn(LlqNumber) -> bool) -> LlqNumber {
+        let right = |number| number != LlqNumber::NONE && !in_use(number);
+        let up = (0..=65).map(|more| LlqNumber(r.wrapping_add(more)));
+        let down = (0..=65).map(|less| LlqNumber(r.wrapping_sub(less)));
+        let found = match now() {
+            NumberZeroGranted => up.clone().find(|&number| !in_use(number)),
+            NumberInUseGranted => up.clone().find(|&number| number != LlqNumber::NONE),
+            NumberDownwards => down.clone().find(|&number| right(number)),
+            NumberOneFurther => {
+                up.take(2).reduce(|first, next| if right(first) { first } else { next })
+            }
+            _ => up.clone().find(|&number| right(number)),
+        };
+        found.expect("at most 64 numbers are in use")
+    }
+
+    fn malformed(option: &LlqOption) -> Option<u16> {
+        let right = Law::malformed(option);
+        let but_for_version = Law::malformed(&LlqOption { version: 1, ..*option });
+        match now() {
+            FormatBeforeVersion => but_for_version.or(right),
+            AnyVersion => but_for_version,
+            AnyError => Law::malformed(&LlqOption { error: 0, ..*option }),
+            OpcodeThreeRead if option.opcode == 3 => {
+                Law::malformed(&LlqOption { opcode: 2, ..*option })
+            }
+            BadOpcodeUnknown if right == Some(error::FORMAT_ERR) => Some(6),
+            _ => right,
+        }
+    }
+}
+
+fn same_sender(entry: Entry, sender: Sender) -> bool {
+    entry.address() == sender.address && entry.port() == sender.port
+}
+
+fn with_any_port(entry: Entry, sender: Sender, question: &Question) -> bool {
+    Law::same_holding(entry, Sender { port: entry.port(), ..sender }, question)
+}
+
+fn with_any_address(entry: Entry, sender: Sender, question: &Question) -> bool {
+    Law::same_holding(entry, Sender { address: entry.address(), ..sender }, question)
+}
+
+impl Server for Wrong {
+    fn make(&self, week: u32, second: u32, table: &mut [u8], roster: &[u8]) -> u32 {
+        NOW.set(*self);
+        calls::make_by::<Bent>(week, second, table, roster)
+    }
+
+    fn tick(&self, week: u32, second: u32, table: &mut [u8]) -> Ticked {
+        NOW.set(*self);
+        calls::tick_by::<Bent>(week, second, table)
+    }
+
+    fn serve(
+        &self,
+        week: u32,
+        second: u32,
+        high: u64,
+        low: u64,
+        port: u16,
+        random: u64,
+        datagram: &[u8],
+        table: &mut [u8],
+        reply: &mut [u8],
+    ) -> Served {
+        NOW.set(*self);
+        let sender = Sender { address: u128::from(high) << 64 | u128::from(low), port };
+        calls::serve_by::<Bent>(week, second, sender, random, datagram, table, reply)
+    }
+}
+
+pub fn all() -> Vec<Named> {
+    let blind = Fault::ALL.iter().map(|&fault| BlindTo(fault));
+    let named = |wrong: Wrong| -> Named { (format!("{wrong:?}"), Box::new(wrong)) };
+    WRONG.iter().copied().chain(blind).map(named).collect()
+}
