@@ -1,107 +1,75 @@
--- Laws for loops over a table's slots and lines: what is found, counted and summed. Assumes nothing.
-use Prim.Native.Nat.{ℕ, zero, suc, _+_, _-_, _*_, _/_, _%_, _^_, _≤_, _<_}
-use native.Mathlib.Nat.{add-zero, add-suc, mul-assoc, pow-suc}
-use native.Mathlib.Numerals.{add-one}
+-- Laws for loops over a table's slots: what is found, what is in use, what is full. Assumes nothing.
+use Prim.Native.Nat.{ℕ, zero, suc, _+_, _-_, _%_, _^_, _≤_, _<_}
 use native.Mathlib.Omega.{arith}
-use borrow.Author.Tests.{not-true, not-false, eq-eqb, ne-eqb, eqb-true, le-leb, lt-leb}
-use mathlib.Core.Path.{_≡_, refl, sym, ap, _∙_}
+use borrow.Author.Tests.{ne-eqb, le-leb, lt-leb}
+use mathlib.Core.Path.{_≡_, refl, ap, _∙_}
 use mathlib.Core.Logic.{_≢_}
-use mathlib.Core.Bool.{Bool, true, false, not, cond, _&&_, _||_}
-use mathlib.Core.List.{List, [], _∷_, _++_}
-use lib.ListN.{length, getD, length-append}
-use lib.Dec.{eqb, leb, ltb}
-use Rattle.model.specs.Lists.{bit, count, any, every, indexOf, upTo, same}
-use Rattle.model.specs.Numbers.{Bytes, bigEndian, part}
-use Rattle.model.specs.Table.{Line, Slot, free, held, Table, slotAt, lineAt, sizeOf, slotsIn, readLine, readEntry, readSlot, readTable, listed}
-use Rattle.model.specs.Rules.{Holding, holding, entriesOf, holdings, heldBy, numbered, Counts, shareOf, limitOf, reserve, full, freshNumber}
-use Rattle.model.specs.Serve.{has, isFree, findEntry, slotRunOut}
-use Rattle.model.proofs.NumberLaws.{big-more, big-lt}
-use Rattle.model.proofs.ListLaws.{iff, count-append, count-next, count-at, every-next, every-not, index-upTo, index-upTo-none, getD-past, length-upTo, getD-upTo, upTo-next, upTo-none, every-nil}
+use mathlib.Core.Bool.{Bool, true, false, not, cond, _&&_, _||_, and-false}
+use mathlib.Core.List.{List}
+use lib.ListN.{length, getD}
+use lib.Dec.{eqb, leb}
+use Rattle.model.specs.Lists.{count, any, indexOf}
+use Rattle.model.specs.Numbers.{bigEndian}
+use Rattle.model.specs.Table.{Slot, free, held, slotAt, sizeOf, readEntry, readSlot, readTable, listed}
+use Rattle.model.specs.Rules.{Holding, holding, holdings, heldBy, numbered, Counts, shareOf, limitOf, reserve, full, freshNumber}
+use Rattle.model.specs.Serve.{has, findEntry}
+use Rattle.model.proofs.ListLaws.{count-at, every-nil, every-next, every-not, index-upTo, index-upTo-none, length-upTo, getD-upTo, upTo-none}
+use Rattle.model.proofs.HoldingLaws.{count-entries}
 use Rattle.layout.specs.Shape.{inUse, slotsTo, linesTo}
-use Rattle.layout.proofs.AddressLaws.{big-halves}
-use Rattle.layout.proofs.LineLaws.{unlisted, share-hit, limit-hit}
-use Rattle.layout.proofs.LineLaws.{reserve-next as reserve-step}
-use Rattle.entries.specs.Reads.{addressOf, wanted, noneTo, keptBack}
+use Rattle.layout.specs.Held.{heldTo}
+use Rattle.layout.proofs.LayoutLaws.{roster-read, slots-read, holdings-read}
+use Rattle.layout.proofs.ReadLaws.{running-read}
+use Rattle.entries.specs.Reads.{wanted, noneTo}
 
 -- ONE SLOT
 
 module _ (r : ℕ) (p : Holding → Bool) (b : List ℕ) (at : ℕ) where
-  pub has-in : inUse (getD b at 0) ≡ true → has r p (readSlot b at) ≡ p (holding r (readEntry b at))
+  pub has-is : has r p (readSlot b at) ≡ inUse (getD b at 0) && p (holding r (readEntry b at))
   unfolding has readSlot
-  has-in h = rw h
+  has-is = go (inUse (getD b at 0))
+    where
+      go : (v : Bool) → has r p (cond v (held (readEntry b at)) free) ≡ v && p (holding r (readEntry b at))
+      go true = refl
+      go false = refl
+
+  pub has-in : inUse (getD b at 0) ≡ true → has r p (readSlot b at) ≡ p (holding r (readEntry b at))
+  has-in h = has-is ∙ rw h
 
   pub has-out : inUse (getD b at 0) ≡ false → has r p (readSlot b at) ≡ false
-  unfolding has readSlot
-  has-out h = rw h
-
-pub free-in : (b : List ℕ) (at : ℕ) → inUse (getD b at 0) ≡ true → isFree (readSlot b at) ≡ false
-unfolding readSlot
-free-in b at h = rw h
-
-pub free-out : (b : List ℕ) (at : ℕ) → inUse (getD b at 0) ≡ false → isFree (readSlot b at) ≡ true
-unfolding readSlot
-free-out b at h = rw h
+  has-out h = has-is ∙ rw h
 
 -- an established entry
 pub six-in : (b : List ℕ) (at : ℕ) → getD b at 0 ≡ 6 → inUse (getD b at 0) ≡ true
 six-in b at e = rw e
 
 pub not-six : (r : ℕ) (p : Holding → Bool) (b : List ℕ) (at : ℕ) → getD b at 0 ≢ 6 → has r (λ h. h .established && p h) (readSlot b at) ≡ false
-unfolding has readSlot readEntry
-not-six r p b at n = rw (ne-eqb (getD b at 0) 6 n) (go (eqb (getD b at 0) 5))
-  where
-    go : (v : Bool) → has r (λ h. h .established && p h) (cond (v || false) (held (record {
-      established = false;
-      address = bigEndian b (at + 1) 16;
-      port = bigEndian b (at + 17) 2;
-      number = bigEndian b (at + 19) 8;
-      lease = bigEndian b (at + 27) 4;
-      stamp = bigEndian b (at + 31) 4;
-      qtype = bigEndian b (at + 35) 2;
-      qclass = bigEndian b (at + 37) 2;
-      name = part (at + 40) (getD b (at + 39) 0) b;
-    })) free) ≡ false
-    go true = refl
-    go false = refl
+unfolding readEntry
+not-six r p b at n = has-is r (λ h. h .established && p h) b at ∙ (rw (ne-eqb (getD b at 0) 6 n) (and-false (eqb (getD b at 0) 5 || false)))
 
 -- THE SLOTS OF A TABLE OF n
 
-pub running-is : (b : List ℕ) → readTable b .clock .running ≡ bigEndian b 5 4
-unfolding readTable
-running-is b = refl
-
-pub roster-is : (b : List ℕ) → readTable b .roster ≡ linesTo b (listed b 16)
-unfolding readTable
-roster-is b = refl
-
 module _ (b : List ℕ) (n : ℕ) (size : length b ≡ sizeOf n) where
-  pub slots-are : readTable b .slots ≡ slotsTo b n
-  unfolding readTable
-  slots-are =
-      let e : (length b - 313) / 320 ≡ n = omega arith in
-      ap (λ (k : ℕ). slotsTo b k) e
-
   pub slots-count : length (readTable b .slots) ≡ n
-  slots-count = ap length slots-are ∙ length-upTo n (λ j. readSlot b (slotAt j))
+  slots-count = ap length (slots-read b n size) ∙ length-upTo n (λ j. readSlot b (slotAt j))
 
   -- the first that passes a test
   module _ (q : Slot → Bool) where
     pub index-here : (i : ℕ) → i < n → noneTo b q i → q (readSlot b (slotAt i)) ≡ true → indexOf q (readTable b .slots) ≡ i
     unfolding noneTo
-    index-here i l e t = ap (indexOf q) slots-are ∙ index-upTo q n i (λ j. readSlot b (slotAt j)) e t l
+    index-here i l e t = ap (indexOf q) (slots-read b n size) ∙ index-upTo q n i (λ j. readSlot b (slotAt j)) e t l
 
     pub index-none-here : noneTo b q n → indexOf q (readTable b .slots) ≡ n
     unfolding noneTo
-    index-none-here e = ap (indexOf q) slots-are ∙ index-upTo-none q n (λ j. readSlot b (slotAt j)) e
+    index-none-here e = ap (indexOf q) (slots-read b n size) ∙ index-upTo-none q n (λ j. readSlot b (slotAt j)) e
 
   pub found : (p : Holding → Bool) (i : ℕ) → i < n → noneTo b (has (bigEndian b 5 4) p) i → wanted b p i ≡ true
       → findEntry p (readTable b) ≡ i
   unfolding findEntry
-  found p i l e t = ap (λ (r : ℕ). indexOf (has r p) (readTable b .slots)) (running-is b) ∙ index-here (has (bigEndian b 5 4) p) i l e t
+  found p i l e t = ap (λ (r : ℕ). indexOf (has r p) (readTable b .slots)) (running-read b) ∙ index-here (has (bigEndian b 5 4) p) i l e t
 
   pub not-found : (p : Holding → Bool) → noneTo b (has (bigEndian b 5 4) p) n → findEntry p (readTable b) ≡ n
   unfolding findEntry
-  not-found p e = ap (λ (r : ℕ). indexOf (has r p) (readTable b .slots)) (running-is b) ∙ index-none-here (has (bigEndian b 5 4) p) e
+  not-found p e = ap (λ (r : ℕ). indexOf (has r p) (readTable b .slots)) (running-read b) ∙ index-none-here (has (bigEndian b 5 4) p) e
 
 -- none of the slots below i, and so none below i + 1
 pub none-yet : (b : List ℕ) (q : Slot → Bool) → noneTo b q 0
@@ -113,29 +81,12 @@ pub none-still : (b : List ℕ) (q : Slot → Bool) (i : ℕ) → q (readSlot b 
 unfolding noneTo
 none-still b q i f e = rw (every-next i (λ j. readSlot b (slotAt j)) (λ s. not (q s)), e, f)
 
--- COUNTS
+-- A NUMBER IN USE
 
-pub count-entries : (r : ℕ) (ss : List Slot) (p : Holding → Bool) → count (entriesOf r ss) p ≡ count ss (has r p)
-unfolding entriesOf has
-count-entries r [] p = refl
-count-entries r (free ∷ ss) p = count-entries r ss p ∙ (omega arith)
-count-entries r (held e ∷ ss) p = ap (λ (k : ℕ). bit (p (holding r e)) + k) (count-entries r ss p)
+count-held : (b : List ℕ) (n : ℕ) → length b ≡ sizeOf n → (p : Holding → Bool) → count (holdings (readTable b)) p ≡ count (slotsTo b n) (has (bigEndian b 5 4) p)
+unfolding heldTo
+count-held b n size p = ap (λ (hs : List Holding). count hs p) (holdings-read b n size) ∙ count-entries (bigEndian b 5 4) (slotsTo b n) p
 
-pub count-none : (b : List ℕ) (q : Slot → Bool) → count (slotsTo b 0) q ≡ 0
-count-none b q = rw (upTo-none (λ j. readSlot b (slotAt j)))
-
-pub count-hit : (b : List ℕ) (q : Slot → Bool) (i k : ℕ) → q (readSlot b (slotAt i)) ≡ true → k ≡ count (slotsTo b i) q → k + 1 ≡ count (slotsTo b (i + 1)) q
-count-hit b q i k t e = rw (count-next i (λ j. readSlot b (slotAt j)) q, t, e)
-
-pub count-miss : (b : List ℕ) (q : Slot → Bool) (i k : ℕ) → q (readSlot b (slotAt i)) ≡ false → k ≡ count (slotsTo b i) q → k ≡ count (slotsTo b (i + 1)) q
-count-miss b q i k t e = rw (count-next i (λ j. readSlot b (slotAt j)) q, t, e) (omega arith)
-
-pub count-held : (b : List ℕ) (n : ℕ) → length b ≡ sizeOf n → (p : Holding → Bool) → count (holdings (readTable b)) p ≡ count (slotsTo b n) (has (bigEndian b 5 4) p)
-count-held b n size p =
-    count-entries (readTable b .clock .running) (readTable b .slots) p
-    ∙ ap (λ (r : ℕ). count (readTable b .slots) (has r p)) (running-is b) ∙ ap (λ (ss : List Slot). count ss (has (bigEndian b 5 4) p)) (slots-are b n size)
-
--- a number in use
 pub used-hit : (b : List ℕ) (n : ℕ) → length b ≡ sizeOf n → (p : Holding → Bool) (i : ℕ) → i < n → wanted b p i ≡ true → leb 1 (count (holdings (readTable b)) p) ≡ true
 used-hit b n size p i l t =
     let f : ℕ → Slot = λ j. readSlot b (slotAt j) in
@@ -149,52 +100,14 @@ pub used-none : (b : List ℕ) (n : ℕ) → length b ≡ sizeOf n → (p : Hold
 unfolding noneTo
 used-none b n size p e = rw (count-held b n size p, every-not (has (bigEndian b 5 4) p) (slotsTo b n) e)
 
--- THE ROSTER
-
--- the first line of an address
-module _ (b : List ℕ) (a : ℕ) where
-  pub no-line-yet : unlisted (linesTo b 0) a ≡ true
-  no-line-yet = rw (upTo-none (λ j. readLine b (lineAt j))) (every-nil (λ l. not (eqb (l .address) a)))
-
-  pub no-line-still : (i : ℕ) → eqb (bigEndian b (lineAt i + 1) 16) a ≡ false → unlisted (linesTo b i) a ≡ true → unlisted (linesTo b (i + 1)) a ≡ true
-  unfolding readLine
-  no-line-still i f e = rw (every-next i (λ j. readLine b (lineAt j)) (λ l. not (eqb (l .address) a)), e, f)
-
-  pub share-here : (i m : ℕ) → i < m → unlisted (linesTo b i) a ≡ true → eqb (bigEndian b (lineAt i + 1) 16) a ≡ true
-      → shareOf (linesTo b m) a ≡ getD b (lineAt i + 17) 0
-  unfolding readLine
-  share-here i m l e t = share-hit (λ j. readLine b (lineAt j)) a m i l e t
-
-  pub limit-here : (i m : ℕ) → i < m → unlisted (linesTo b i) a ≡ true → eqb (bigEndian b (lineAt i + 1) 16) a ≡ true
-      → limitOf (linesTo b m) a ≡ getD b (lineAt i + 18) 0
-  unfolding readLine
-  limit-here i m l e t = limit-hit (λ j. readLine b (lineAt j)) a m i l e t
-
-pub reserve-none : (b : List ℕ) (c : Counts) → reserve (linesTo b 0) c ≡ 0
-unfolding reserve
-reserve-none b c = rw (upTo-none (λ j. readLine b (lineAt j)))
-
-pub reserve-next : (b : List ℕ) (i k x : ℕ) → k ≡ reserve (linesTo b i) (count (holdings (readTable b))) → x ≡ keptBack b i
-    → k + x ≡ reserve (linesTo b (i + 1)) (count (holdings (readTable b)))
-unfolding keptBack
-reserve-next b i k x e h = rw (reserve-step (λ j. readLine b (lineAt j)) i (count (holdings (readTable b))), e, h)
-
-pub kept-is : (b : List ℕ) (i h l x : ℕ) → x ≡ count (holdings (readTable b)) (heldBy (addressOf h l)) → h ≡ bigEndian b (lineAt i + 1) 8
-    → l ≡ bigEndian b (lineAt i + 9) 8 → keptBack b i ≡ getD b (lineAt i + 17) 0 - x
-unfolding keptBack readLine
-kept-is b i h l x e f g =
-    let s : lineAt i + 1 + 8 ≡ lineAt i + 9 = omega arith in
-    let a : bigEndian b (lineAt i + 1) 16 ≡ addressOf h l = rw (big-halves b (lineAt i + 1), s, f, g) in
-    rw (a, e)
-
 -- SERV-FULL, from what the code has counted
-module _ (b : List ℕ) (n a : ℕ) {m h l : ℕ} (ms : m ≡ listed b 16) (hs : h ≡ count (holdings (readTable b)) (heldBy a)) (ls : l ≡ limitOf (linesTo b m) a) where
+module _ (b : List ℕ) (n a : ℕ) (size : length b ≡ sizeOf n) {m h l : ℕ} (ms : m ≡ listed b 16) (hs : h ≡ count (heldTo b n) (heldBy a)) (ls : l ≡ limitOf (linesTo b m) a) where
   room : Bool
-  room = leb (shareOf (linesTo b m) a) h && leb (n - count (holdings (readTable b)) any) (reserve (linesTo b m) (count (holdings (readTable b))))
+  room = leb (shareOf (linesTo b m) a) h && leb (n - count (heldTo b n) any) (reserve (linesTo b m) (count (heldTo b n)))
 
   full-is : full n (readTable b .roster) (count (holdings (readTable b))) a ≡ leb l h || room
   unfolding full room
-  full-is = rw (roster-is b, ← ms, ← hs, ← ls)
+  full-is = rw (roster-read b, holdings-read b n size, ← ms, ← hs, ← ls)
 
   pub full-limit : l ≤ h → full n (readTable b .roster) (count (holdings (readTable b))) a ≡ true
   full-limit t = full-is ∙ rw (le-leb l h t)
@@ -204,7 +117,7 @@ module _ (b : List ℕ) (n a : ℕ) {m h l : ℕ} (ms : m ≡ listed b 16) (hs :
     unfolding room
     full-share u = full-is ∙ rw (lt-leb l h t, ← ss, lt-leb s h u)
 
-    pub full-room : s ≤ h → {e k : ℕ} → e ≡ count (holdings (readTable b)) any → k ≡ reserve (linesTo b m) (count (holdings (readTable b)))
+    pub full-room : s ≤ h → {e k : ℕ} → e ≡ count (heldTo b n) any → k ≡ reserve (linesTo b m) (count (heldTo b n))
         → full n (readTable b .roster) (count (holdings (readTable b))) a ≡ leb (n - e) k
     unfolding room
     full-room u es ks = full-is ∙ rw (lt-leb l h t, ← ss, le-leb s h u, ← es, ← ks)

@@ -1,20 +1,19 @@
 -- The code's sender, question and entry as the model's, and what a loop over slots has passed. Assumes nothing.
-use Prim.Native.Nat.{ℕ, zero, suc, _+_, _-_, _*_, _^_}
+use Prim.Native.Nat.{ℕ, _+_, _*_, _^_}
 use mathlib.Core.Path.{_≡_}
-use mathlib.Core.Bool.{Bool, true, false, not, cond, _||_}
-use mathlib.Core.List.{List, [], _∷_}
-use lib.ListN.{length, getD}
+use mathlib.Core.Bool.{Bool, true, not, cond}
+use mathlib.Core.List.{List}
+use lib.ListN.{getD}
 use lib.Dec.{eqb}
-use Rattle.model.specs.Lists.{count, every}
+use Rattle.model.specs.Lists.{every}
 use Rattle.model.specs.Numbers.{bigEndian}
 use Rattle.model.specs.Query as query
 use Rattle.model.specs.Table as table
-use Rattle.model.specs.Table.{lineAt, slotAt, readLine, readSlot, readTable}
-use Rattle.model.specs.Rules.{Holding, holdings, heldBy}
+use Rattle.model.specs.Table.{slotAt, readSlot}
+use Rattle.model.specs.Rules.{Holding}
 use Rattle.model.specs.Serve as serve
 use Rattle.model.specs.Serve.{has}
 use Rattle.layout.specs.Shape.{slotsTo}
-use Rattle.wire.specs.declared.LlqNumber.{LlqNumber}
 use Rattle.entries.specs.declared.Sender.{Sender}
 use Rattle.entries.specs.declared.State.{State}
 use Rattle.entries.specs.declared.State.the-variants.{Free, Pending, Established}
@@ -62,7 +61,3 @@ wanted b p i = has (bigEndian b 5 4) p (readSlot b (slotAt i))
 -- none of the slots below i passes the test
 unfoldable pub noneTo : List ℕ → (table.Slot → Bool) → ℕ → Type 0
 noneTo b q i = every (λ s. not (q s)) (slotsTo b i) ≡ true
-
--- a line's share less what its address holds
-unfoldable pub keptBack : List ℕ → ℕ → ℕ
-keptBack b i = readLine b (lineAt i) .share - count (holdings (readTable b)) (heldBy (readLine b (lineAt i) .address))

@@ -1,16 +1,14 @@
-// What is read of a table's slots and roster lines, where they lie. A slot is found by its first index, as the model finds it.
+// What is read of a table's slots, where they lie. A slot is found by its first index, as the model finds it.
 ghost use mathlib.Core.Path.{_≡_};
 ghost use mathlib.Core.Bool.{_||_};
-ghost use Prim.Native.Nat.{_+_, _-_, _*_, _<_, _≤_, _^_};
-ghost use lib.ListN.{length, getD};
+ghost use Prim.Native.Nat.{_+_, _≤_};
+ghost use lib.ListN.{length};
 ghost use lib.Dec.{eqb, leb};
-ghost use Rattle.model.specs.Lists.{count, any, indexOf};
-ghost use Rattle.model.specs.Numbers.{bigEndian};
-ghost use Rattle.model.specs.Table.{slotAt, lineAt, sizeOf, slotsIn, readSlot, readTable, listed};
-ghost use Rattle.model.specs.Rules.{holdings, heldBy, numbered, asks, shareOf, limitOf, reserve, full, freshNumber};
-ghost use Rattle.model.specs.Serve.{has, isFree, findEntry, slotRunOut, answers, refreshes};
-ghost use Rattle.entries.specs.Reads.{addressOf, senderOf, asked, stateOf, entryAt, wanted, sent, keptBack};
-ghost use Rattle.layout.specs.Shape.{inUse, linesTo};
+ghost use Rattle.model.specs.Lists.{count, indexOf};
+ghost use Rattle.model.specs.Table.{slotAt, sizeOf, slotsIn, readSlot, readTable};
+ghost use Rattle.model.specs.Rules.{holdings, numbered, asks, full, freshNumber};
+ghost use Rattle.model.specs.Serve.{isFree, findEntry, slotRunOut, answers, refreshes};
+ghost use Rattle.entries.specs.Reads.{addressOf, senderOf, asked, stateOf, entryAt, wanted, sent};
 ghost use Rattle.layout.specs.Held.{holdingAt};
 
 // Who sent the datagram: an address in two halves, and a port.
@@ -53,16 +51,7 @@ pub fn slots(size: usize) -> usize
     (size - 313) / 320
 }
 
-// Kinds 0x05 and 0x06.
-fn in_use(k: u8) -> bool
-    ensures { λ r. ⌜ r ≡ inUse k ⌝ }
-{
-    if k == 5 {
-        return true;
-    }
-    k == 6
-}
-
+// What a slot of this kind is.
 fn state_of(k: u8) -> State
     ensures { λ r. ⌜ r ≡ stateOf k ⌝ }
 {
@@ -95,23 +84,12 @@ pub fn entry_at(t: &[u8], i: usize) -> Entry
     }
 }
 
-// The 16 bytes at a are the address.
-fn has_address(t: &[u8], a: usize, high: u64, low: u64) -> bool
-    requires { ⌜ a + 16 ≤ length (now t) ⌝ }
-    ensures { λ r. ⌜ r ≡ eqb (bigEndian (now (t .entry)) a 16) (addressOf high low) ⌝ }
-{
-    if octets::get64(t, a + 8) != low {
-        return false;
-    }
-    octets::get64(t, a) == high
-}
-
 // The entry at a is of this sender and this question.
 fn entry_asks(t: &[u8], a: usize, s: Sender, name: &[u8], qtype: u16, qclass: u16) -> bool
     requires { ⌜ a + 320 ≤ length (now t) ⌝ }
     ensures { λ r. ⌜ r ≡ asks (senderOf s .address) (s .port) (asked (now (name .entry)) qtype qclass) (holdingAt (now (t .entry)) a) ⌝ }
 {
-    if !has_address(t, a + 1, s.high, s.low) {
+    if !record::has_address(t, a + 1, s.high, s.low) {
         return false;
     }
     if octets::get16(t, a + 17) != s.port {
@@ -136,7 +114,7 @@ fn slot_asks(t: &[u8], i: usize, s: Sender, name: &[u8], qtype: u16, qclass: u16
     ensures { λ r. ⌜ r ≡ wanted (now (t .entry)) (asks (senderOf s .address) (s .port) (asked (now (name .entry)) qtype qclass)) i ⌝ }
 {
     let a = 313 + 320 * i;
-    if in_use(t[a]) {
+    if record::in_use(t[a]) {
         return entry_asks(t, a, s, name, qtype, qclass);
     }
     false
@@ -157,7 +135,7 @@ fn slot_answers(
     ensures { λ r. ⌜ r ≡ wanted (now (t .entry)) (answers (senderOf s) (asked (now (name .entry)) qtype qclass) (sent number lease)) i ⌝ }
 {
     let a = 313 + 320 * i;
-    if !in_use(t[a]) {
+    if !record::in_use(t[a]) {
         return false;
     }
     if octets::get64(t, a + 19) != number {
@@ -259,7 +237,7 @@ pub fn find_free(t: &[u8], n: usize) -> usize
 {
     let mut i = 0;
     while i < n {
-        if !in_use(t[313 + 320 * i]) {
+        if !record::in_use(t[313 + 320 * i]) {
             return i;
         }
         i += 1;
@@ -273,132 +251,10 @@ pub fn run_out(t: &[u8], i: usize, running: u32) -> bool
     ensures { λ r. ⌜ r ≡ slotRunOut running (readSlot (now (t .entry)) (slotAt i)) ⌝ }
 {
     let a = 313 + 320 * i;
-    if in_use(t[a]) {
+    if record::in_use(t[a]) {
         return clock::run_out(running, octets::get32(t, a + 31), octets::get32(t, a + 27));
     }
     false
-}
-
-// Slot i has an entry of the address.
-fn slot_held_by(t: &[u8], i: usize, high: u64, low: u64) -> bool
-    requires { ⌜ slotAt (i + 1) ≤ length (now t) ⌝ }
-    ensures { λ r. ⌜ r ≡ wanted (now (t .entry)) (heldBy (addressOf high low)) i ⌝ }
-{
-    let a = 313 + 320 * i;
-    if in_use(t[a]) {
-        return has_address(t, a + 1, high, low);
-    }
-    false
-}
-
-// How many entries the address holds, over all ports, pending ones included.
-pub fn held_by(t: &[u8], n: usize, high: u64, low: u64) -> usize
-    requires { ⌜ length (now t) ≡ sizeOf n ⌝ }
-    ensures { λ r. ⌜ r ≡ count (holdings (readTable (now (t .entry)))) (heldBy (addressOf high low)) ⌝ }
-{
-    let mut k: usize = 0;
-    let mut i = 0;
-    while i < n {
-        if slot_held_by(t, i, high, low) {
-            k += 1;
-        }
-        i += 1;
-    }
-    k
-}
-
-// How many entries there are.
-pub fn held(t: &[u8], n: usize) -> usize
-    requires { ⌜ length (now t) ≡ sizeOf n ⌝ }
-    ensures { λ r. ⌜ (r ≡ count (holdings (readTable (now (t .entry)))) any) × (r ≤ n) ⌝ }
-{
-    let mut k: usize = 0;
-    let mut i = 0;
-    while i < n {
-        if in_use(t[313 + 320 * i]) {
-            k += 1;
-        }
-        i += 1;
-    }
-    k
-}
-
-// The listed lines: those of kind 0x03 that stand first.
-pub fn lines(t: &[u8]) -> usize
-    requires { ⌜ 313 ≤ length (now t) ⌝ }
-    ensures { λ r. ⌜ (r ≡ listed (now (t .entry)) 16) × (r ≤ 16) ⌝ }
-{
-    let mut i = 0;
-    while i < 16 {
-        if t[9 + 19 * i] != 3 {
-            return i;
-        }
-        i += 1;
-    }
-    16
-}
-
-// The address's share by the first m lines: its line's, or 0.
-fn share_of(t: &[u8], m: usize, high: u64, low: u64) -> usize
-    requires { ⌜ lineAt m ≤ length (now t) ⌝ }
-    ensures { λ r. ⌜ r ≡ shareOf (linesTo (now (t .entry)) m) (addressOf high low) ⌝ }
-{
-    let mut i = 0;
-    while i < m {
-        let a = 9 + 19 * i;
-        if has_address(t, a + 1, high, low) {
-            return t[a + 17] as usize;
-        }
-        i += 1;
-    }
-    0
-}
-
-// The address's limit by the first m lines: its line's, or 4.
-fn limit_of(t: &[u8], m: usize, high: u64, low: u64) -> usize
-    requires { ⌜ lineAt m ≤ length (now t) ⌝ }
-    ensures { λ r. ⌜ r ≡ limitOf (linesTo (now (t .entry)) m) (addressOf high low) ⌝ }
-{
-    let mut i = 0;
-    while i < m {
-        let a = 9 + 19 * i;
-        if has_address(t, a + 1, high, low) {
-            return t[a + 18] as usize;
-        }
-        i += 1;
-    }
-    4
-}
-
-// What line i keeps back: its share less what its address holds, where that is positive.
-fn kept_back(t: &[u8], n: usize, i: usize) -> usize
-    requires { ⌜ (length (now t) ≡ sizeOf n) × (i < 16) ⌝ }
-    ensures { λ r. ⌜ (r ≡ keptBack (now (t .entry)) i) × (r ≤ 255) ⌝ }
-{
-    let a = 9 + 19 * i;
-    let share = t[a + 17] as usize;
-    if share == 0 {
-        return 0;
-    }
-    let k = held_by(t, n, octets::get64(t, a + 1), octets::get64(t, a + 9));
-    if share <= k {
-        return 0;
-    }
-    share - k
-}
-
-// The reserve.
-fn reserve_of(t: &[u8], n: usize, m: usize) -> usize
-    requires { ⌜ (length (now t) ≡ sizeOf n) × (m ≤ 16) ⌝ }
-    ensures { λ r. ⌜ r ≡ reserve (linesTo (now (t .entry)) m) (count (holdings (readTable (now (t .entry))))) ⌝ }
-{
-    let mut k: usize = 0;
-    let mut i = 0;
-    while i < m {
-        k += kept_back(t, n, i);
-        i += 1;
-    }
-    k
 }
 
 // SERV-FULL: the address is at its limit, or has reached its share and the free slots are no more than the reserve.
@@ -406,27 +262,15 @@ pub fn is_full(t: &[u8], n: usize, high: u64, low: u64) -> bool
     requires { ⌜ length (now t) ≡ sizeOf n ⌝ }
     ensures { λ r. ⌜ r ≡ full n (readTable (now (t .entry)) .roster) (count (holdings (readTable (now (t .entry))))) (addressOf high low) ⌝ }
 {
-    let m = lines(t);
-    let h = held_by(t, n, high, low);
-    if limit_of(t, m, high, low) <= h {
+    let m = roster::listed_lines(t);
+    let h = holdings::held_by(t, n, high, low);
+    if roster::limit_of(t, m, high, low) <= h {
         return true;
     }
-    if h < share_of(t, m, high, low) {
+    if h < roster::share_of(t, m, high, low) {
         return false;
     }
-    n - held(t, n) <= reserve_of(t, n, m)
-}
-
-// Slot i has an entry of the number.
-fn slot_numbered(t: &[u8], i: usize, x: u64) -> bool
-    requires { ⌜ slotAt (i + 1) ≤ length (now t) ⌝ }
-    ensures { λ r. ⌜ r ≡ wanted (now (t .entry)) (numbered x) i ⌝ }
-{
-    let a = 313 + 320 * i;
-    if in_use(t[a]) {
-        return octets::get64(t, a + 19) == x;
-    }
-    false
+    n - holdings::held(t, n) <= holdings::reserve_of(t, n, m)
 }
 
 // An entry has the number.
@@ -436,7 +280,7 @@ fn number_used(t: &[u8], n: usize, x: u64) -> bool
 {
     let mut i = 0;
     while i < n {
-        if slot_numbered(t, i, x) {
+        if record::has_number(t, 313 + 320 * i, x) {
             return true;
         }
         i += 1;

@@ -2,8 +2,8 @@
 use Prim.Native.Nat.{ℕ, zero, suc, _+_, _*_, _^_, _≤_, _<_}
 use native.Mathlib.Nat.{mul-assoc, pow-suc, add-zero, add-suc}
 use native.Mathlib.Omega.{arith}
-use mathlib.Core.Path.{_≡_, refl, sym, ap, _∙_}
-use mathlib.Core.Bool.{Bool, true, false}
+use mathlib.Core.Path.{_≡_, sym, ap, _∙_}
+use mathlib.Core.Bool.{false}
 use mathlib.Core.List.{List}
 use mathlib.Core.Logic.{_≢_}
 use lib.ListN.{length, getD}
@@ -55,11 +55,3 @@ same-big s a c k b h l =
     (λ t.
     let q = eqb-true (bigEndian s a k) (bigEndian s c k) t in
     rw (← bytes-big s a k b h, ← bytes-big s c k b l, q) (same-refl (bytesOf k (bigEndian s c k))))
-
--- lists of different length differ
-pub same-length : (a b : List ℕ) → length a ≢ length b → same a b ≡ false
-same-length a b n = go (same a b) refl
-  where
-    go : (v : Bool) → same a b ≡ v → v ≡ false
-    go true e = absurd (n (ap length (same-true a b e)))
-    go false e = refl

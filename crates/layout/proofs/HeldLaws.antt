@@ -4,24 +4,18 @@ use native.Mathlib.Nat.{eq-or-lt-of-le}
 use native.Mathlib.Numerals.{add-one}
 use native.Mathlib.Omega.{arith}
 use mathlib.Core.Path.{_≡_, refl, sym, ap, _∙_}
-use mathlib.Core.Bool.{Bool, true, false, not, cond, _&&_, _||_, and-true, and-false}
+use mathlib.Core.Bool.{Bool, true, false, not, cond, _&&_, and-true, and-false}
 use mathlib.Core.List.{List, [], _∷_, _++_, append-nil}
 use mathlib.Core.Logic.{⊎-elim}
 use lib.ListN.{getD}
-use lib.Dec.{eqb}
 use Rattle.model.specs.Numbers.{bigEndian}
 use Rattle.model.specs.Lists.{bit, count, every, noTwo, upTo}
-use Rattle.model.specs.Table.{Slot, free, held, readEntry, readSlot, slotAt}
+use Rattle.model.specs.Table.{free, held, readEntry, readSlot, slotAt}
 use Rattle.model.specs.Rules.{Holding, holding, entriesOf}
 use Rattle.model.proofs.ListLaws.{count-append, every-snoc, noTwo-snoc}
+use Rattle.model.proofs.HoldingLaws.{entries-append}
 use Rattle.layout.specs.Shape.{inUse, slotsTo}
 use Rattle.layout.specs.Held.{holdingAt, heldTo, okAt}
-
-pub entries-append : (r : ℕ) (l m : List Slot) → entriesOf r (l ++ m) ≡ entriesOf r l ++ entriesOf r m
-unfolding entriesOf
-entries-append r [] m = refl
-entries-append r (free ∷ l) m = entries-append r l m
-entries-append r (held e ∷ l) m = ap {B = List Holding} (λ z. holding r e ∷ z) (entries-append r l m)
 
 pub held-none : (b : List ℕ) → heldTo b 0 ≡ []
 unfolding heldTo entriesOf upTo
@@ -80,7 +74,7 @@ module _ (b : List ℕ) (i : ℕ) where
     pub two-yes : okAt b (λ k. every (λ h. not (q h k)) (heldTo b i)) i ≡ true → noTwo q (heldTo b i) ≡ true → noTwo q (heldTo b (i + 1)) ≡ true
     two-yes h e = rw (two-next, e, h)
 
--- a fold that grows heldBy tests is false from the first that fails
+-- a fold that grows by tests is false from the first that fails
 module _ (f : ℕ → Bool) (g : ℕ → Bool) (step : (i : ℕ) → f (i + 1) ≡ f i && g i) where
   pub grows-no : (n i : ℕ) → i < n → g i ≡ false → f n ≡ false
   grows-no zero i l h = absurd (omega arith)

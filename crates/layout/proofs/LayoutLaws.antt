@@ -6,27 +6,22 @@ use mathlib.Core.Path.{_≡_, refl, sym, ap, _∙_}
 use mathlib.Core.Bool.{Bool, true, false, cond, _&&_, and-true}
 use mathlib.Core.List.{List, [], _∷_, _++_}
 use mathlib.Core.Logic.{⊎-elim}
-use lib.ListN.{length, getD, length-append}
+use lib.ListN.{length, getD}
 use lib.Dec.{eqb, lit<}
 use borrow.Author.Tests.{eqb-true, eq-eqb}
 use Rattle.model.specs.Numbers.{bigEndian, Bytes, part, encode}
 use Rattle.model.proofs.NumberLaws.{length-part, encode-first, big-one, part-all}
 use Rattle.model.specs.Lists.{every, upTo, flat, same}
-use Rattle.model.specs.Table.{Line, Slot, slotBytes, lineBytes, unusedLine, rosterBytes, clockBytes, tableBytes, readTable, readSlot, readLine, slotAt, lineAt, listed, slotsIn, sizeOf}
+use Rattle.model.specs.Table.{slotBytes, lineBytes, unusedLine, rosterBytes, clockBytes, tableBytes, readTable, readSlot, readLine, slotAt, lineAt, listed, slotsIn, sizeOf}
 use Rattle.model.proofs.ListLaws.{and-left, and-right, eqb-sym, same-refl, same-append, part-add, same-rows, length-upTo, length-flat}
-use Rattle.model.proofs.SlotLaws.{length-slot, length-line}
+use Rattle.model.proofs.SlotLaws.{length-slot, length-line, fits-short}
 use Rattle.model.proofs.TableLaws.{length-clock, length-roster}
+use Rattle.model.proofs.RoundTrip.{listed-le}
+use Rattle.model.proofs.Meaning.{fits-slot, lines-read}
+use Rattle.model.specs.Rules.{holdings}
 use Rattle.layout.specs.Shape.{all, slotShape, unusedShape, unusedFrom, tableShape, slotsTo, linesTo}
-use Rattle.layout.proofs.ShapeLaws.{all-yes, all-ext, same-cons, part-head, read-all, read-short, slot-shape-is}
-
-pub listed-le : (b : List ℕ) (m : ℕ) → listed b m ≤ m
-unfolding listed
-listed-le b zero = omega arith
-listed-le b (suc m) = go (eqb (listed b m) m && eqb (getD b (lineAt m) 0) 3) (listed-le b m)
-  where
-    go : (v : Bool) → listed b m ≤ m → cond v (suc m) (listed b m) ≤ suc m
-    go true h = omega arith
-    go false h = omega arith
+use Rattle.layout.specs.Held.{heldTo}
+use Rattle.layout.proofs.ShapeLaws.{all-yes, all-ext, same-cons, part-head, read-all, slot-shape-is}
 
 pub listed-kind : (b : List ℕ) (m i : ℕ) → i < listed b m → getD b (lineAt i) 0 ≡ 3
 unfolding listed
@@ -50,6 +45,24 @@ pub unused-length : length unusedLine ≡ 19
 unfolding unusedLine
 unused-length = refl
 
+-- what is read of n slots
+module _ (b : List ℕ) where
+  pub roster-read : readTable b .roster ≡ linesTo b (listed b 16)
+  unfolding readTable
+  roster-read = refl
+
+  module _ (n : ℕ) (size : length b ≡ sizeOf n) where
+    size-is : slotsIn (length b) ≡ n
+    size-is = omega arith
+
+    pub slots-read : readTable b .slots ≡ slotsTo b n
+    unfolding readTable
+    slots-read = ap (λ (k : ℕ). slotsTo b k) size-is
+
+    pub holdings-read : holdings (readTable b) ≡ heldTo b n
+    unfolding readTable heldTo
+    holdings-read = ap (λ (k : ℕ). heldTo b k) size-is
+
 module _ (b : List ℕ) (bytes : Bytes b) where
   pub line-is : (at : ℕ) → at + 19 ≤ length b → same (lineBytes (readLine b at)) (part at 19 b) ≡ eqb (getD b at 0) 3
   unfolding lineBytes readLine
@@ -63,23 +76,12 @@ module _ (b : List ℕ) (bytes : Bytes b) where
   unused-is at h = rw (part-head at 18 b (omega arith), same-cons, eqb-sym 2 (getD b at 0))
 
   module _ (n : ℕ) (size : length b ≡ sizeOf n) where
-    pub size-is : slotsIn (length b) ≡ n
-    size-is = omega arith
-
-    pub read-roster : readTable b .roster ≡ linesTo b (listed b 16)
-    unfolding readTable
-    read-roster = refl
-
-    pub read-slots : readTable b .slots ≡ slotsTo b n
-    unfolding readTable
-    read-slots = ap (λ (k : ℕ). slotsTo b k) size-is
-
     whole : b ≡ part 0 9 b ++ (part 9 304 b ++ part 313 (320 * n) b)
     whole = sym (part-all b) ∙ ap (λ (k : ℕ). part 0 k b) (size ∙ (omega arith)) ∙ part-add 0 9 (304 + 320 * n) b ∙ ap (λ (x : List ℕ). part 0 9 b ++ x) (part-add 9 304 (320 * n) b)
 
     slots-are : same (flat slotBytes (slotsTo b n)) (part 313 (320 * n) b) ≡ all (λ i. slotShape b (slotAt i)) n
     slots-are =
-        same-rows slotBytes 320 (λ j. readSlot b (slotAt j)) b 313 n (λ i l. length-slot (readSlot b (slotAt i)) (read-short b bytes (slotAt i) (omega arith))) (omega arith)
+        same-rows slotBytes 320 (λ j. readSlot b (slotAt j)) b 313 n (λ i l. length-slot (readSlot b (slotAt i)) (fits-short (readSlot b (slotAt i)) (fits-slot b bytes (slotAt i)))) (omega arith)
         ∙ all-is (λ i. same (slotBytes (readSlot b (slotAt i))) (part (313 + 320 * i) 320 b)) n
         ∙ all-ext (λ i. same (slotBytes (readSlot b (slotAt i))) (part (313 + 320 * i) 320 b)) (λ i. slotShape b (slotAt i)) n (λ i l. slot-shape-is b bytes (slotAt i) (omega arith))
 
@@ -121,7 +123,7 @@ module _ (b : List ℕ) (bytes : Bytes b) where
     layout-is =
         let c0 : b ≡ part 0 9 b ++ (part 9 304 b ++ part 313 (320 * n) b) = whole in
         let lc : length (clockBytes (readTable b .clock)) ≡ length (part 0 9 b) = length-clock (readTable b .clock) ∙ sym (length-part 0 9 b (omega arith)) in
-        let lr : length (rosterBytes (linesTo b (listed b 16))) ≡ length (part 9 304 b) = length-roster (linesTo b (listed b 16)) (rw (length-upTo (listed b 16) (λ j. readLine b (lineAt j))) (listed-le b 16)) ∙ sym (length-part 9 304 b (omega arith)) in
+        let lr : length (rosterBytes (linesTo b (listed b 16))) ≡ length (part 9 304 b) = length-roster (linesTo b (listed b 16)) (rw (roster-read b) at (lines-read b)) ∙ sym (length-part 9 304 b (omega arith)) in
         ap (λ (x : List ℕ). same (clockBytes (readTable b .clock) ++ (rosterBytes (readTable b .roster) ++ flat slotBytes (readTable b .slots))) x) c0
         ∙ same-append (clockBytes (readTable b .clock)) (rosterBytes (readTable b .roster) ++ flat slotBytes (readTable b .slots)) (part 0 9 b) (part 9 304 b ++ part 313 (320 * n) b) lc
-        ∙ (rw (clock-is, read-roster, read-slots, same-append (rosterBytes (linesTo b (listed b 16))) (flat slotBytes (slotsTo b n)) (part 9 304 b) (part 313 (320 * n) b) lr, roster-is, slots-are))
+        ∙ (rw (clock-is, roster-read b, slots-read b n size, same-append (rosterBytes (linesTo b (listed b 16))) (flat slotBytes (slotsTo b n)) (part 9 304 b) (part 313 (320 * n) b) lr, roster-is, slots-are))

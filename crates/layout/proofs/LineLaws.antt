@@ -1,37 +1,20 @@
 -- One line more: what a turn of a loop over roster lines, from any base, adds to each fold of them. Assumes nothing.
-use Prim.Native.Nat.{ℕ, zero, suc, _+_, _-_, _*_, _≤_, _<_}
+use Prim.Native.Nat.{ℕ, zero, suc, _+_, _-_, _≤_, _<_}
 use native.Mathlib.Nat.{eq-or-lt-of-le}
 use native.Mathlib.Numerals.{add-one}
 use native.Mathlib.Omega.{arith}
 use mathlib.Core.Path.{_≡_, refl, sym, ap, _∙_}
 use mathlib.Core.Bool.{Bool, true, false, not, cond, _&&_}
 use mathlib.Core.List.{List, [], _∷_, _++_, append-nil}
-use mathlib.Core.Logic.{⊎-elim, _≢_}
-use lib.ListN.{getD}
+use mathlib.Core.Logic.{⊎-elim}
 use lib.Dec.{eqb, leb}
-use borrow.Author.Tests.{eq-eqb, ne-eqb, leb-true}
+use borrow.Author.Tests.{leb-true}
 use Rattle.model.specs.Lists.{every, noTwo, upTo}
-use Rattle.model.specs.Table.{Line, lineAt, listed}
+use Rattle.model.specs.Table.{Line}
 use Rattle.model.specs.Rules.{heldBy, limitOf, shareOf, reserve, Counts, shares}
 use Rattle.model.specs.Sound.{validLine}
 use Rattle.model.proofs.ListLaws.{and-left, and-right, upTo-next, every-next, noTwo-next}
 use Rattle.layout.proofs.HeldLaws.{grows-no}
-
--- LISTED LINES
-
-module _ (b : List ℕ) where
-  pub listed-more : (i : ℕ) → listed b i ≡ i → getD b (lineAt i) 0 ≡ 3 → listed b (i + 1) ≡ i + 1
-  unfolding listed
-  listed-more i e k = rw (add-one, e, eq-eqb i i refl, eq-eqb (getD b (lineAt i) 0) 3 k)
-
-  pub listed-stop : (i m : ℕ) → listed b i ≡ i → getD b (lineAt i) 0 ≢ 3 → i < m → listed b m ≡ i
-  unfolding listed
-  listed-stop i zero e n l = absurd (omega arith)
-  listed-stop i (suc m) e n l =
-      ⊎-elim
-      (λ (q : i ≡ m). rw (← q, e, eq-eqb i i refl, ne-eqb (getD b (lineAt i) 0) 3 n))
-      (λ (q : i < m). let r = listed-stop i m e n q in rw (r, ne-eqb i m (λ z. omega arith)))
-      (let q : i ≤ m = omega arith in eq-or-lt-of-le q)
 
 -- FOLDS OF LINES
 

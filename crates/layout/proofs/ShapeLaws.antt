@@ -1,12 +1,11 @@
 -- The bytes at a place are those of what is read there exactly if the kind and the zeros are right. Assumes nothing.
-use Prim.Native.Nat.{ℕ, zero, suc, _+_, _-_, _*_, _≤_, _<_}
-use native.Mathlib.Nat.{add-zero, eq-or-lt-of-le}
+use Prim.Native.Nat.{ℕ, zero, suc, _+_, _-_, _≤_, _<_}
+use native.Mathlib.Nat.{add-zero}
 use native.Mathlib.Numerals.{add-one}
 use native.Mathlib.Omega.{arith}
 use mathlib.Core.Path.{_≡_, refl, sym, ap, _∙_}
-use mathlib.Core.Bool.{Bool, true, false, cond, _&&_, _||_, or-false, and-false}
+use mathlib.Core.Bool.{Bool, true, false, cond, _&&_, _||_, or-false}
 use mathlib.Core.List.{List, [], _∷_, _++_}
-use mathlib.Core.Logic.{⊎-elim}
 use lib.ListN.{length, getD, replicate}
 use lib.Seq.{drop-cons}
 use lib.Dec.{eqb}
@@ -14,10 +13,10 @@ use borrow.Author.Tests.{eqb-true}
 use Rattle.model.specs.Numbers.{bigEndian, Bytes, part, encode}
 use Rattle.model.proofs.NumberLaws.{length-part, bytes-big, big-one, part-none}
 use Rattle.model.specs.Lists.{every, upTo, same}
-use Rattle.model.specs.Table.{Slot, free, held, entryFields, kindOf, slotBytes, readEntry, readSlot}
+use Rattle.model.specs.Table.{free, held, entryFields, kindOf, slotBytes, readEntry, readSlot}
 use Rattle.model.proofs.ListLaws.{eqb-sym, same-refl, same-append, part-add, every-snoc}
-use Rattle.model.proofs.SlotLaws.{Short}
 use Rattle.layout.specs.Shape.{all, inUse, zerosAt, slotShape}
+use Rattle.layout.proofs.HeldLaws.{grows-no}
 
 -- all, one more
 module _ (p : ℕ → Bool) where
@@ -33,12 +32,7 @@ module _ (p : ℕ → Bool) where
   all-more i h a = rw (all-next i, a, h)
 
   pub all-no : (n i : ℕ) → i < n → p i ≡ false → all p n ≡ false
-  all-no zero i l h = absurd (omega arith)
-  all-no (suc n) i l h =
-      ⊎-elim
-      (λ (q : i ≡ n). rw (← add-one n, all-next n, ← q, h) (and-false (all p i)))
-      (λ (q : i < n). rw (← add-one n, all-next n, all-no n i q h))
-      (let q : i ≤ n = omega arith in eq-or-lt-of-le q)
+  all-no n i l h = grows-no (λ j. all p j) p all-next n i l h
 
   pub all-yes : (n : ℕ) → ((i : ℕ) → i < n → p i ≡ true) → all p n ≡ true
   all-yes zero h = all-none
@@ -96,14 +90,6 @@ module _ (b : List ℕ) (bytes : Bytes b) (at : ℕ) (fits : at + 320 ≤ length
       let kd : kindOf (eqb (getD b at 0) 6) ≡ bigEndian b (at + 0) 1 = kind-back (getD b at 0) k ∙ sym (big-one b at) ∙ ap (λ (x : ℕ). bigEndian b x 1) (sym (add-zero at)) in
       let ln : length (part (at + 40) (getD b (at + 39) 0) b) ≡ bigEndian b (at + 39) 1 = name-length ∙ sym (big-one b (at + 39)) in
       rw (kd, ln) ((read-all b bytes at 0 (1 ∷ 16 ∷ 2 ∷ 8 ∷ 4 ∷ 4 ∷ 2 ∷ 2 ∷ 1 ∷ []) (omega arith)) ∙ ap (λ (x : ℕ). part x 40 b) (add-zero at))
-
-  pub read-short : Short (readSlot b at)
-  unfolding readSlot readEntry
-  read-short = go (inUse (getD b at 0))
-    where
-      go : (v : Bool) → Short (cond v (held (readEntry b at)) free)
-      go true = omega (arith, name-length, bytes (at + 39))
-      go false = tt
 
   read-name : readEntry b at .name ≡ part (at + 40) (getD b (at + 39) 0) b
   unfolding readEntry

@@ -1,31 +1,28 @@
 -- Soundness of bytes as what code tests, in its order. Assumes nothing.
-use Prim.Native.Nat.{ℕ, zero, suc, _+_, _*_, _≤_, _<_}
-use native.Mathlib.Omega.{arith}
-use mathlib.Core.Path.{_≡_, refl, sym, ap, _∙_}
-use mathlib.Core.Bool.{Bool, true, false, cond, _&&_, _||_, and-true, and-assoc}
-use mathlib.Core.List.{List, [], _∷_, _++_}
+use Prim.Native.Nat.{ℕ, _+_, _≤_}
+use mathlib.Core.Path.{_≡_, refl}
+use mathlib.Core.Bool.{Bool, true, false, _&&_, and-true, and-assoc}
+use mathlib.Core.List.{List}
 use lib.ListN.{length}
-use lib.Dec.{eqb, leb, ltb}
-use borrow.Author.Tests.{le-leb, leb-true}
+use lib.Dec.{leb, ltb}
+use borrow.Author.Tests.{le-leb}
 use Rattle.model.specs.Numbers.{bigEndian, Bytes}
-use Rattle.model.specs.Lists.{count, any, every, noTwo, same}
-use Rattle.model.specs.Table.{Line, Table, tableBytes, readTable, readSlot, readLine, slotAt, lineAt, listed, sizeOf, slotsIn}
-use Rattle.model.specs.Rules.{Holding, heldBy, limitOf, reserve}
-use Rattle.model.specs.Sound.{validEntry, sameNumber, sameQuestion, soundRoster, soundHoldings, soundTable, soundBytes}
-use Rattle.model.proofs.ListLaws.{and-left, and-right, same-true, length-upTo, noTwo-or}
+use Rattle.model.specs.Lists.{count, any, every, noTwo}
+use Rattle.model.specs.Table.{Line, readTable, readSlot, readLine, slotAt, lineAt, listed, sizeOf, slotsIn}
+use Rattle.model.specs.Rules.{Holding, reserve}
+use Rattle.model.specs.Sound.{validEntry, sameNumber, sameQuestion, Sound, soundRoster, soundHoldings, soundTable, soundBytes}
+use Rattle.model.proofs.ListLaws.{length-upTo, noTwo-or}
+use Rattle.model.proofs.RoundTrip.{listed-le}
+use Rattle.model.proofs.Meaning.{bytes-back, table-sound}
 use Rattle.layout.specs.Shape.{tableShape, slotsTo, linesTo}
 use Rattle.layout.specs.Held.{heldTo, clash, within}
-use Rattle.layout.proofs.ReadLaws.{place-read, running-read, slots-length, laid-size}
-use Rattle.layout.proofs.LayoutLaws.{listed-le, layout-is, read-roster, read-slots}
+use Rattle.layout.proofs.ReadLaws.{place-read, running-read, slots-length, formed-size}
+use Rattle.layout.proofs.LayoutLaws.{layout-is, roster-read, slots-read}
 
 pub holdings-is : (n : ℕ) (ls : List Line) (hs : List Holding) → soundHoldings n ls hs
     ≡ every validEntry hs && ((noTwo clash hs && every (within ls hs) hs) && leb (reserve ls (count hs) + count hs any) n)
 unfolding soundHoldings
 holdings-is n ls hs = rw (noTwo-or sameNumber sameQuestion hs) (simp and-assoc)
-
-sizes : (t : Table) → soundTable t ≡ true → leb 1 (length (t .slots)) && leb (length (t .slots)) 64 ≡ true
-unfolding soundTable
-sizes t f = and-right (ltb (t .clock .place) 619315200) _ (and-left _ _ (and-left _ _ (and-left _ _ f)))
 
 module _ (b : List ℕ) (bytes : Bytes b) where
   module _ (n : ℕ) (size : length b ≡ sizeOf n) (lo : 1 ≤ n) (hi : n ≤ 64) where
@@ -34,7 +31,7 @@ module _ (b : List ℕ) (bytes : Bytes b) where
     table-is =
         let ls : length (slotsTo b n) ≡ n = length-upTo n (λ j. readSlot b (slotAt j)) in
         let lr : length (linesTo b (listed b 16)) ≡ listed b 16 = length-upTo (listed b 16) (λ j. readLine b (lineAt j)) in
-        rw (read-slots b bytes n size, read-roster b bytes n size, ls, lr, le-leb 1 n lo, le-leb n 64 hi, le-leb (listed b 16) 16 (listed-le b 16), place-read b, running-read b)
+        rw (slots-read b n size, roster-read b, ls, lr, le-leb 1 n lo, le-leb n 64 hi, le-leb (listed b 16) 16 (listed-le b 16), place-read b, running-read b)
         (simp (and-true, and-assoc))
 
     pub sound-is : soundBytes b ≡ tableShape b n && (ltb (bigEndian b 1 4) 619315200 && (soundRoster n (linesTo b (listed b 16)) && soundHoldings n (linesTo b (listed b 16)) (heldTo b n)))
@@ -43,17 +40,9 @@ module _ (b : List ℕ) (bytes : Bytes b) where
 
   -- a sound table's length
   pub sound-size : soundBytes b ≡ true → (length b ≡ sizeOf (slotsIn (length b))) × (1 ≤ slotsIn (length b)) × (slotsIn (length b) ≤ 64)
-  unfolding soundBytes
   sound-size h =
-      let t = readTable b in
-      let e : tableBytes t ≡ b = same-true (tableBytes t) b (and-left (same (tableBytes t) b) (soundTable t) h) in
-      let f : soundTable t ≡ true = and-right (same (tableBytes t) b) (soundTable t) h in
-      let n : length (t .slots) ≡ slotsIn (length b) = slots-length b in
-      let c : leb 1 (length (t .slots)) && leb (length (t .slots)) 64 ≡ true = sizes t f in (
-        laid-size b bytes e,
-        (rw n at (leb-true 1 (length (t .slots)) (and-left (leb 1 (length (t .slots))) (leb (length (t .slots)) 64) c))),
-        (rw n at (leb-true (length (t .slots)) 64 (and-right (leb 1 (length (t .slots))) (leb (length (t .slots)) 64) c))),
-      )
+      let s : Sound (readTable b) = table-sound b h in
+      (formed-size b bytes (bytes-back b h), (rw (slots-length b) at (s .slotsMin)), (rw (slots-length b) at (s .slotsMax)))
 
   pub not-sound : ((length b ≡ sizeOf (slotsIn (length b))) → 1 ≤ slotsIn (length b) → slotsIn (length b) ≤ 64 → ⊥) → false ≡ soundBytes b
   not-sound bad = go (soundBytes b) refl

@@ -19,22 +19,21 @@ use Rattle.model.specs.Meets.{ServeMeets}
 use Rattle.model.proofs.ListLaws.{and-left, and-right, count-le, length-upTo}
 use Rattle.model.proofs.Meaning.{bytes-back, table-sound}
 use borrow.Author.Tests.{eqb-true}
-use Rattle.query.specs.declared.Query.{Query}
-use Rattle.query.specs.Whole.{Holds, queryRefusal}
-use Rattle.table.specs.Written.{Laid, Written}
+use Rattle.query.specs.Whole.{queryRefusal}
+use Rattle.table.specs.Written.{WellFormed, Written}
 use Rattle.table.specs.Fresh.{fresh}
-use Rattle.llq.specs.Answer.{tableFrom, outcomeFrom, frontBytes, tableDone, outcomesDone, Answers}
+use Rattle.llq.specs.Answer.{Measures, Matches, tableFrom, outcomeFrom, frontBytes, tableDone, outcomesDone, Answers}
 use Rattle.llq.proofs.ReplyLaws.{length-matched, length-mismatched, length-option, length-options, options-next, reply-written}
 use Rattle.llq.proofs.OrderLaws.{from-none, from-next, outcome-next, start, after-is, outcomes-is}
 use Rattle.llq.proofs.LadderLaws.{noRoom, serve-done}
 
 -- WHAT A SOUND TABLE GIVES
 
-pub laid-written : {b : List ℕ} {t : Table} → Written b t → Laid b
-laid-written w = ap tableBytes (w .read) ∙ sym (w .bytes)
+pub formed-written : {b : List ℕ} {t : Table} → Written b t → WellFormed b
+formed-written w = ap tableBytes (w .read) ∙ sym (w .bytes)
 
-pub sound-laid : (b : List ℕ) → soundBytes b ≡ true → Laid b
-sound-laid = bytes-back
+pub sound-formed : (b : List ℕ) → soundBytes b ≡ true → WellFormed b
+sound-formed = bytes-back
 
 pub sound-place : (b : List ℕ) → soundBytes b ≡ true → bigEndian b 1 4 < cycle
 unfolding readTable
@@ -61,9 +60,9 @@ fresh-is c p n m e f = rw (e, f)
 -- ONE OPTION MORE
 
 module _ (s : Sender) (r : ℕ) (d b : List ℕ) where
-  pub written-none : Laid b → Written b (tableFrom s r d (readTable b) 0)
-  written-none laid =
-      record { bytes = sym laid ∙ ap tableBytes (sym (from-none s r d (readTable b))); read = sym (from-none s r d (readTable b)) }
+  pub written-none : WellFormed b → Written b (tableFrom s r d (readTable b) 0)
+  written-none formed =
+      record { bytes = sym formed ∙ ap tableBytes (sym (from-none s r d (readTable b))); read = sym (from-none s r d (readTable b)) }
 
   module _ (i : ℕ) (u : List ℕ) (w : Written u (tableFrom s r d (readTable b) i)) (q : Question) (o : LlqOption) (f : q ≡ question d i) (g : o ≡ llqOption d i)
     where
@@ -84,46 +83,46 @@ module _ (s : Sender) (r : ℕ) (d b : List ℕ) where
 
 -- THE ANSWER'S BYTES
 
-module _ (s : Sender) (r : ℕ) (d b lent : List ℕ) (q : Query) (h : Holds d q) (fits : replyLength d ≤ length lent) where
+module _ (s : Sender) (r : ℕ) (d b lent : List ℕ) (n end : ℕ) (v : Bool) (h : Measures d n end) (t : Matches d v) (fits : replyLength d ≤ length lent) where
   from : 12 ≤ questionsEnd d
   from = omega (arith, h .end, h .from)
 
   within : questionsEnd d ≤ length d
   within = omega (arith, h .end, h .within)
 
-  pub answers-matched : (after left : List ℕ) → q .matched ≡ true → Written after (tableFrom s r d (readTable b) (q .count))
-      → left ≡ splice (q .end + 11) (22 * q .count) (flat optionBytes (upTo (q .count) (outcomeFrom s r d (readTable b))))
-      (splice 0 (q .end + 11) (frontBytes d (q .count)) lent)
+  pub answers-matched : (after left : List ℕ) → v ≡ true → Written after (tableFrom s r d (readTable b) n)
+      → left ≡ splice (end + 11) (22 * n) (flat optionBytes (upTo n (outcomeFrom s r d (readTable b))))
+      (splice 0 (end + 11) (frontBytes d n) lent)
       → Answers s r d b after lent left
   answers-matched after left e w l =
-      let m : matched d ≡ true = sym (h .matched) ∙ e in
+      let m : matched d ≡ true = sym t ∙ e in
       let f = outcomeFrom s r d (readTable b) in
-      let size : questionsEnd d + 11 + 22 * qdcount d ≡ replyLength d = rw (h .end, h .count) at (length-matched d q h e) in
-      let k : q .count ≡ cond (matched d) (qdcount d) 0 = h .count ∙ sym (ap (λ (v : Bool). cond v (qdcount d) 0) m) in
+      let size : questionsEnd d + 11 + 22 * qdcount d ≡ replyLength d = rw (h .end, h .count) at (length-matched d n end v h t e) in
+      let k : n ≡ cond (matched d) (qdcount d) 0 = h .count ∙ sym (ap (λ (w : Bool). cond w (qdcount d) 0) m) in
       let whole = reply-written d (upTo (qdcount d) f) (qdcount d) lent from within (length-upTo (qdcount d) f) (length-options (qdcount d) f) (omega (arith, size, fits)) in
-      let os : upTo (qdcount d) f ≡ outcomesDone s r d (readTable b) = sym (ap (λ (v : Bool). cond v (upTo (qdcount d) f) (mismatch ∷ [])) m) in
+      let os : upTo (qdcount d) f ≡ outcomesDone s r d (readTable b) = sym (ap (λ (w : Bool). cond w (upTo (qdcount d) f) (mismatch ∷ [])) m) in
       record {
-        table = w .bytes ∙ ap (λ (n : ℕ). tableBytes (tableFrom s r d (readTable b) n)) k;
+        table = w .bytes ∙ ap (λ (m : ℕ). tableBytes (tableFrom s r d (readTable b) m)) k;
         reply =
             (rw (h .end, h .count) at l)
-            ∙ (whole ∙ (ap (λ (n : ℕ). replyBytes d (upTo (qdcount d) f) ++ drop n lent) size ∙ ap (λ (x : List Outcome). replyBytes d x ++ drop (replyLength d) lent) os));
+            ∙ (whole ∙ (ap (λ (m : ℕ). replyBytes d (upTo (qdcount d) f) ++ drop m lent) size ∙ ap (λ (x : List Outcome). replyBytes d x ++ drop (replyLength d) lent) os));
       }
 
-  pub answers-mismatched : (left : List ℕ) → q .matched ≡ false → Laid b
-      → left ≡ splice (q .end + 11) 22 (optionBytes mismatch) (splice 0 (q .end + 11) (frontBytes d 1) lent) → Answers s r d b b lent left
+  pub answers-mismatched : (left : List ℕ) → v ≡ false → WellFormed b
+      → left ≡ splice (end + 11) 22 (optionBytes mismatch) (splice 0 (end + 11) (frontBytes d 1) lent) → Answers s r d b b lent left
   unfolding tableFrom flat
-  answers-mismatched left e laid l =
-      let m : matched d ≡ false = sym (h .matched) ∙ e in
+  answers-mismatched left e formed l =
+      let m : matched d ≡ false = sym t ∙ e in
       let f = outcomeFrom s r d (readTable b) in
-      let size : questionsEnd d + 11 + 22 * 1 ≡ replyLength d = omega (arith, h .end, length-mismatched d q h e) in
+      let size : questionsEnd d + 11 + 22 * 1 ≡ replyLength d = omega (arith, h .end, length-mismatched d n end v h t e) in
       let one : flat optionBytes (mismatch ∷ []) ≡ optionBytes mismatch = append-nil (optionBytes mismatch) in
       let whole = reply-written d (mismatch ∷ []) 1 lent from within refl (ap length one ∙ length-option mismatch) (omega (arith, size, fits)) in
-      let os : mismatch ∷ [] ≡ outcomesDone s r d (readTable b) = sym (ap (λ (v : Bool). cond v (upTo (qdcount d) f) (mismatch ∷ [])) m) in
+      let os : mismatch ∷ [] ≡ outcomesDone s r d (readTable b) = sym (ap (λ (w : Bool). cond w (upTo (qdcount d) f) (mismatch ∷ [])) m) in
       let bytes : left ≡ splice (questionsEnd d + 11) (22 * 1) (flat optionBytes (mismatch ∷ [])) (splice 0 (questionsEnd d + 11) (frontBytes d 1) lent) =
       rw one (rw (h .end) at l) in
       record {
-        table = sym laid ∙ sym (ap (λ (v : Bool). tableBytes (tableFrom s r d (readTable b) (cond v (qdcount d) 0))) m);
-        reply = bytes ∙ (whole ∙ (ap (λ (n : ℕ). replyBytes d (mismatch ∷ []) ++ drop n lent) size ∙ ap (λ (x : List Outcome). replyBytes d x ++ drop (replyLength d) lent) os));
+        table = sym formed ∙ sym (ap (λ (w : Bool). tableBytes (tableFrom s r d (readTable b) (cond w (qdcount d) 0))) m);
+        reply = bytes ∙ (whole ∙ (ap (λ (m : ℕ). replyBytes d (mismatch ∷ []) ++ drop m lent) size ∙ ap (λ (x : List Outcome). replyBytes d x ++ drop (replyLength d) lent) os));
       }
 
 -- THE ANSWERED CALL

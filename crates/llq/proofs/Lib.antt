@@ -2,3 +2,4 @@ pub mod ReplyLaws
 pub mod OrderLaws
 pub mod LadderLaws
 pub mod AnswerLaws
+pub mod FoundLaws

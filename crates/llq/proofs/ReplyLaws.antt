@@ -14,9 +14,7 @@ use Rattle.model.specs.Reply.{headerBytes, questionBytes, optBytes, optionBytes
 use Rattle.model.proofs.NumberLaws.{length-encode, length-part, splice-none, splice-splice, splice-on}
 use Rattle.model.proofs.ListLaws.{upTo-next, upTo-none, length-upTo, flat-snoc, length-flat}
 use Rattle.wire.specs.Write.{headerSent}
-use Rattle.query.specs.declared.Query.{Query}
-use Rattle.query.specs.Whole.{Holds}
-use Rattle.llq.specs.Answer.{frontBytes}
+use Rattle.llq.specs.Answer.{Measures, Matches, frontBytes}
 
 -- LENGTHS
 
@@ -37,17 +35,17 @@ length-options n f =
     length-flat optionBytes 22 (upTo n f) (λ i e l. length-option (getD (upTo n f) i e)) ∙ ap (λ (m : ℕ). 22 * m) (length-upTo n f)
 
 -- the length that the code works out is the model's
-module _ (d : List ℕ) (q : Query) (h : Holds d q) where
-  pub length-matched : q .matched ≡ true → q .end + 11 + 22 * q .count ≡ replyLength d
+module _ (d : List ℕ) (n end : ℕ) (v : Bool) (h : Measures d n end) (t : Matches d v) where
+  pub length-matched : v ≡ true → end + 11 + 22 * n ≡ replyLength d
   unfolding replyOptions
   length-matched m =
-      let e : replyOptions d ≡ qdcount d = ap (λ (v : Bool). cond v (qdcount d) 1) (sym (h .matched) ∙ m) in
+      let e : replyOptions d ≡ qdcount d = ap (λ (v : Bool). cond v (qdcount d) 1) (sym t ∙ m) in
       omega (arith, e, h .end, h .from, h .count)
 
-  pub length-mismatched : q .matched ≡ false → q .end + 33 ≡ replyLength d
+  pub length-mismatched : v ≡ false → end + 33 ≡ replyLength d
   unfolding replyOptions
   length-mismatched m =
-      let e : replyOptions d ≡ 1 = ap (λ (v : Bool). cond v (qdcount d) 1) (sym (h .matched) ∙ m) in
+      let e : replyOptions d ≡ 1 = ap (λ (v : Bool). cond v (qdcount d) 1) (sym t ∙ m) in
       omega (arith, e, h .end, h .from)
 
 -- THE FRONT

@@ -1,15 +1,33 @@
 -- What serving does once the clock is moved and run-out entries are free, from the table as it then stands. Assumes nothing.
-use Prim.Native.Nat.{ℕ, zero, suc}
+use Prim.Native.Nat.{ℕ, zero, suc, _+_, _≤_, _<_}
 use mathlib.Core.Path.{_≡_}
-use mathlib.Core.Bool.{cond}
+use mathlib.Core.Bool.{Bool, cond}
 use mathlib.Core.List.{List, [], _∷_, _++_}
-use lib.ListN.{drop}
+use lib.ListN.{length, drop, getD}
 use Rattle.model.specs.Lists.{upTo}
-use Rattle.model.specs.Query.{qdcount, matched, question, llqOption}
+use Rattle.model.specs.Query.{qdcount, questionsEnd, matched, question, llqOption}
 use Rattle.model.specs.Table.{Table, tableBytes, readTable}
 use Rattle.model.specs.Serve.{Sender, Outcome, serveOption}
+use Rattle.wire.specs.Records.{optionOf}
+use Rattle.wire.specs.declared.LlqOption.{LlqOption}
 use Rattle.llq.specs.declared.Served.{Served}
 use Rattle.model.specs.Reply.{headerBytes, questionBytes, optBytes, replyBytes, replyLength, mismatch}
+
+-- how many questions a query has, and where they end
+pub record Measures (d : List ℕ) (n e : ℕ) : Type 0 where
+  pub count : n ≡ qdcount d
+  pub atMost : n ≤ 8
+  pub end : e ≡ questionsEnd d
+  pub from : 12 ≤ e
+  pub within : e + 11 ≤ length d
+
+-- whether the count and length test passes
+abbrev pub Matches : List ℕ → Bool → Type 0
+Matches d m = m ≡ matched d
+
+-- the first n of an array are the query's options; an element is read by getD, whatever its default
+abbrev pub OptionsOf : List ℕ → ℕ → List LlqOption → Type 0
+OptionsOf d n all = (i : ℕ) (e : LlqOption) → i < n → optionOf (getD all i e) ≡ llqOption d i
 
 -- the table after the first i options
 unfoldable pub tableFrom : Sender → ℕ → List ℕ → Table → ℕ → Table

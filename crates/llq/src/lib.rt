@@ -1,8 +1,9 @@
 // Document 01's three calls, for a host in C: making, ticking, serving. Every refusal is decided before the first byte is written.
 use entries::Sender;
-use query::Query;
+use query::Judged;
 use wire::LlqNumber;
 use wire::LlqOption;
+use wire::MessageNumber;
 use wire::Question;
 ghost use mathlib.Core.Path.{_≡_};
 ghost use mathlib.Core.Bool.{true, false, not};
@@ -11,16 +12,17 @@ ghost use lib.ListN.{length};
 ghost use Rattle.model.specs.Lists.{flat, upTo};
 ghost use Rattle.model.specs.Numbers.{splice};
 ghost use Rattle.model.specs.Clock.{cycle, placeOf};
+ghost use Rattle.model.specs.Query.{messageNumber, flagRD, goodQuestions};
 ghost use Rattle.model.specs.Table.{readTable, slotsIn};
 ghost use Rattle.model.specs.Serve.{serveOption};
 ghost use Rattle.model.specs.Reply.{optionBytes, replyBytes, replyLength};
 ghost use Rattle.model.specs.Calls.{tableLength, tableAfter, outcomes};
 ghost use Rattle.model.specs.Meets.{MakeMeets, TickMeets, ServeMeets};
 ghost use Rattle.wire.specs.Records.{questionOf, optionOf};
-ghost use Rattle.query.specs.Whole.{Holds};
+ghost use Rattle.query.specs.Whole.{Judges};
 ghost use Rattle.entries.specs.Reads.{addressOf, senderOf};
-ghost use Rattle.table.specs.Written.{Laid, Written};
-ghost use Rattle.llq.specs.Answer.{tableFrom, outcomeFrom, frontBytes, Answers, refusedBy};
+ghost use Rattle.table.specs.Written.{WellFormed, Written};
+ghost use Rattle.llq.specs.Answer.{Measures, Matches, OptionsOf, tableFrom, outcomeFrom, frontBytes, Answers, refusedBy};
 
 // A datagram's answer: the refusal's number and 0, or 0 and the reply's length.
 #[repr(C)]
@@ -98,14 +100,14 @@ pub extern "C" fn llq_tick(week: u32, second: u32, t: &mut [u8]) -> Ticked
 // SERVING
 
 // 12 + questions + 11 + 22 for each option: one where the count and length test fails.
-fn reply_length(d: &[u8], q: Query) -> usize
-    requires { ⌜ Holds (now d) q ⌝ }
+fn reply_length(d: &[u8], count: usize, end: usize, matched: bool) -> usize
+    requires { ⌜ Measures (now d) count end × Matches (now d) matched ⌝ }
     ensures { λ r. ⌜ r ≡ replyLength (now (d .entry)) ⌝ }
 {
-    if !q.matched {
-        return q.end + 33;
+    if !matched {
+        return end + 33;
     }
-    q.end + 11 + 22 * q.count
+    end + 11 + 22 * count
 }
 
 // A refused datagram has no reply.
@@ -125,7 +127,7 @@ fn serve_one(
     q: Question,
     o: LlqOption,
 )
-    requires { ⌜ Laid (now t) × (q .len ≤ 255) × (at + 22 ≤ length (now reply)) ⌝ }
+    requires { ⌜ WellFormed (now t) × (q .len ≤ 255) × (at + 22 ≤ length (now reply)) ⌝ }
     ensures { λ _. ⌜ Written (now (t .exit)) (serveOption (senderOf s) r (questionOf q) (optionOf o) (readTable (now (t .entry))) .table) × (now (reply .exit) ≡ splice at 22 (optionBytes (serveOption (senderOf s) r (questionOf q) (optionOf o) (readTable (now (t .entry))) .outcome)) (now (reply .entry))) ⌝ }
 {
     let x = options::serve_option(t, s, r, q, o);
@@ -137,14 +139,21 @@ fn serve_one(
 }
 
 // The options in order, each on its question and on the table that those before it left.
-fn serve_each(t: &mut [u8], reply: &mut [u8], d: &[u8], s: Sender, r: u64, q: Query)
-    requires { ⌜ Laid (now t) × Holds (now d) q × (q .matched ≡ true) × (q .end + 11 + 22 * q .count ≤ length (now reply)) ⌝ }
-    ensures { λ _. ⌜ Written (now (t .exit)) (tableFrom (senderOf s) r (now (d .entry)) (readTable (now (t .entry))) (q .count)) × (now (reply .exit) ≡ splice (q .end + 11) (22 * q .count) (flat optionBytes (upTo (q .count) (outcomeFrom (senderOf s) r (now (d .entry)) (readTable (now (t .entry)))))) (now (reply .entry))) ⌝ }
+fn serve_each(
+    t: &mut [u8],
+    reply: &mut [u8],
+    d: &[u8],
+    s: Sender,
+    r: u64,
+    n: usize,
+    end: usize,
+    options: [LlqOption; 8],
+)
+    requires { ⌜ WellFormed (now t) × (n ≤ 8) × (goodQuestions (now d) n ≡ true) × OptionsOf (now d) n options × (end + 11 + 22 * n ≤ length (now reply)) ⌝ }
+    ensures { λ _. ⌜ Written (now (t .exit)) (tableFrom (senderOf s) r (now (d .entry)) (readTable (now (t .entry))) n) × (now (reply .exit) ≡ splice (end + 11) (22 * n) (flat optionBytes (upTo n (outcomeFrom (senderOf s) r (now (d .entry)) (readTable (now (t .entry)))))) (now (reply .entry))) ⌝ }
 {
-    let questions = q.questions;
-    let options = q.options;
-    let at = q.end + 11;
-    let n = q.count;
+    let questions = query::read_questions(d, n);
+    let at = end + 11;
     let mut i: usize = 0;
     while i < n {
         serve_one(t, reply, at + 22 * i, s, r, questions[i], options[i]);
@@ -153,29 +162,38 @@ fn serve_each(t: &mut [u8], reply: &mut [u8], d: &[u8], s: Sender, r: u64, q: Qu
 }
 
 // The header, the questions as received, and the OPT record of k options.
-fn put_front(reply: &mut [u8], d: &[u8], q: Query, k: u16)
-    requires { ⌜ Holds (now d) q × (k ≤ 8) × (q .end + 11 ≤ length (now reply)) ⌝ }
-    ensures { λ _. ⌜ now (reply .exit) ≡ splice 0 (q .end + 11) (frontBytes (now (d .entry)) k) (now (reply .entry)) ⌝ }
+fn put_front(
+    reply: &mut [u8],
+    d: &[u8],
+    number: MessageNumber,
+    desired: u8,
+    count: usize,
+    end: usize,
+    k: u16,
+)
+    requires { ⌜ (number .0 ≡ messageNumber (now d)) × (desired ≡ flagRD (now d)) × Measures (now d) count end × (k ≤ 8) × (end + 11 ≤ length (now reply)) ⌝ }
+    ensures { λ _. ⌜ now (reply .exit) ≡ splice 0 (end + 11) (frontBytes (now (d .entry)) k) (now (reply .entry)) ⌝ }
 {
-    let end = q.end;
-    let count = q.count;
-    wire::write::put_header(reply, q.number, q.desired, count as u16);
+    wire::write::put_header(reply, number, desired, count as u16);
     octets::copy(reply, 12, d, 12, end - 12);
     wire::write::put_opt(reply, end, k);
 }
 
 // As many options as questions: each is served. Otherwise none is, and the reply has one: opcode 1, error 3, number 0, lease 0.
-fn answer(t: &mut [u8], reply: &mut [u8], d: &[u8], s: Sender, r: u64, q: Query)
-    requires { ⌜ Laid (now t) × Holds (now d) q × (replyLength (now d) ≤ length (now reply)) ⌝ }
+fn answer(t: &mut [u8], reply: &mut [u8], d: &[u8], s: Sender, r: u64, j: Judged)
+    requires { ⌜ WellFormed (now t) × Judges (now d) j × (j .refused ≡ 0) × (replyLength (now d) ≤ length (now reply)) ⌝ }
     ensures { λ _. ⌜ Answers (senderOf s) r (now (d .entry)) (now (t .entry)) (now (t .exit)) (now (reply .entry)) (now (reply .exit)) ⌝ }
 {
-    if q.matched {
-        let count = q.count;
-        put_front(reply, d, q, count as u16);
-        serve_each(t, reply, d, s, r, q);
+    let number = j.number;
+    let options = j.options;
+    let count = j.count;
+    let end = j.end;
+    if j.matched {
+        put_front(reply, d, number, j.desired, count, end, count as u16);
+        serve_each(t, reply, d, s, r, count, end, options);
     } else {
-        put_front(reply, d, q, 1);
-        wire::write::put_option(reply, q.end + 11, 1, 3, LlqNumber(0), 0);
+        put_front(reply, d, number, j.desired, count, end, 1);
+        wire::write::put_option(reply, end + 11, 1, 3, LlqNumber(0), 0);
     }
 }
 
@@ -199,13 +217,12 @@ pub extern "C" fn llq_serve(
     if !clock::valid(week, second) {
         return refuse(2);
     }
-    let p = query::parse(datagram);
-    let refused = p.refused;
+    let j = query::judge(datagram);
+    let refused = j.refused;
     if refused != 0 {
         return refuse(refused);
     }
-    let q = p.query;
-    let len = reply_length(datagram, q);
+    let len = reply_length(datagram, j.count, j.end, j.matched);
     if len > reply.len() {
         return refuse(8);
     }
@@ -214,7 +231,7 @@ pub extern "C" fn llq_serve(
     }
     let s = Sender { high, low, port };
     table::move_on(t, clock::place(week, second));
-    answer(t, reply, datagram, s, random, q);
+    answer(t, reply, datagram, s, random, j);
     Served {
         number: 0,
         length: len as u32,

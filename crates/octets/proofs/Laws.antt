@@ -3,17 +3,14 @@ use Prim.Native.Nat.{ℕ, zero, suc, _+_, _-_, _*_, _/_, _%_, _≤_, _<_}
 use native.Mathlib.Nat.{add-zero}
 use native.Mathlib.Omega.{arith}
 use mathlib.Core.Path.{_≡_, refl, sym, ap, _∙_}
-use mathlib.Core.Bool.{Bool, true, false, _&&_, and-true}
+use mathlib.Core.Bool.{Bool, true, false, _&&_}
 use mathlib.Core.Logic.{_⊎_, inl, inr, ⊎-elim}
-use lib.Dec.{eqb}
-use lib.Bits.{bitOr, bitAnd, or-add-and, and-le-l, and-le-r}
-use borrow.Author.Tests.{eqb-true, eq-eqb}
 use mathlib.Core.List.{List, [], _∷_, _++_}
 use lib.ListN.{length, getD, set, replicate, length-set, length-replicate, replicate-append-replicate}
 use Rattle.model.specs.Lists.{same}
 use Rattle.model.specs.Numbers.{bigEndian, bytesOf, Bytes, part, splice}
-use Rattle.model.proofs.NumberLaws.{put-step, splice-none, bytes-big, big-ext, getD-part, length-part, part-next, splice-next}
-use Rattle.model.proofs.ListLaws.{same-refl, same-true, same-append, part-add, test, iff, and-both, and-left, and-right, eqb-sym}
+use Rattle.model.proofs.NumberLaws.{put-step, splice-none, bytes-big, big-ext, getD-part, length-part, splice-next}
+use Rattle.model.proofs.ListLaws.{same-refl, same-true, same-append, part-add, test}
 
 -- a number of two, four or eight bytes as one chain
 pub chain2 : (s : List ℕ) (at : ℕ) → getD s at 0 * 256 + getD s (at + 1) 0 ≡ bigEndian s at 2
@@ -88,24 +85,12 @@ clear-step at i s h =
     splice-next at i 0 (noughts i) s (length-zeros i) h
     ∙ ap (λ (x : List ℕ). splice at (i + 1) x s) (replicate-append-replicate i 1 0)
 
--- no bit is seen in both exactly if none is seen in one nor in the other
-pub or-none : (a b : ℕ) → eqb (bitOr a b) 0 ≡ eqb a 0 && eqb b 0
-or-none a b =
-    let s = or-add-and a b in
-    let l = and-le-l a b in
-    let r = and-le-r a b in
-    iff (eqb (bitOr a b) 0) (eqb a 0 && eqb b 0)
-    (λ e. let z : bitOr a b ≡ 0 = eqb-true (bitOr a b) 0 e in and-both (eqb a 0) (eqb b 0) (eq-eqb a 0 (omega arith)) (eq-eqb b 0 (omega arith)))
-    (λ e.
-    let x : a ≡ 0 = eqb-true a 0 (and-left (eqb a 0) (eqb b 0) e) in
-    let y : b ≡ 0 = eqb-true b 0 (and-right (eqb a 0) (eqb b 0) e) in
-    eq-eqb (bitOr a b) 0 (omega arith))
-
--- one byte more of which zeros are asked
-pub zeros-next : (s : List ℕ) (at i seen : ℕ) → at + i < length s → eqb seen 0 ≡ same (noughts i) (part at i s)
-    → eqb (bitOr seen (getD s (at + i) 0)) 0 ≡ same (noughts (i + 1)) (part at (i + 1) s)
-unfolding same
-zeros-next s at i seen h e =
-    let l : length (noughts i) ≡ length (part at i s) = length-zeros i ∙ sym (length-part at i s (omega arith)) in
-    or-none seen (getD s (at + i) 0)
-    ∙ rw (e, ← replicate-append-replicate {A = ℕ} i 1 0, part-next at i s h, same-append (noughts i) (0 ∷ []) (part at i s) (getD s (at + i) 0 ∷ []) l, eqb-sym 0 (getD s (at + i) 0), and-true)
+-- zeros from index at
+module _ (s : List ℕ) (at n : ℕ) where
+  -- n zeros are j and then k
+  pub zero-both : (j k : ℕ) → j + k ≡ n → at + j ≤ length s
+      → same (noughts j) (part at j s) && same (noughts k) (part (at + j) k s) ≡ same (noughts n) (part at n s)
+  zero-both j k e h =
+      let f : length (noughts j) ≡ length (part at j s) = length-zeros j ∙ sym (length-part at j s h) in
+      sym (same-append (noughts j) (noughts k) (part at j s) (part (at + j) k s) f)
+      ∙ rw (replicate-append-replicate {A = ℕ} j k 0, ← part-add at j k s, e)

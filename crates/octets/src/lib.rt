@@ -78,18 +78,32 @@ pub fn put64(s: &mut [u8], at: usize, x: u64)
     s[at] = (g / 256 % 256) as u8;
 }
 
-// The n bytes from index at are zeros. No byte ends the loop, which compiles to whole vectors.
+// The n bytes from index at are zeros: their `or` is. The loop has one way out, so that it compiles to vectors.
+fn zero_bytes(s: &[u8], at: usize, n: usize) -> bool
+    requires { ⌜ at + n ≤ length (now s) ⌝ }
+    ensures { λ r. ⌜ r ≡ same (replicate n 0) (part at n (now (s .entry))) ⌝ }
+{
+    let mut x: u8 = 0;
+    let mut i: usize = 0;
+    while i < n {
+        x = x | s[at + i];
+        i += 1;
+    }
+    x == 0
+}
+
+// Zeros, in blocks of 32 and then the last 32.
 pub fn zeros(s: &[u8], at: usize, n: usize) -> bool
     requires { ⌜ at + n ≤ length (now s) ⌝ }
     ensures { λ r. ⌜ r ≡ same (replicate n 0) (part at n (now (s .entry))) ⌝ }
 {
-    let mut seen: u8 = 0;
-    let mut i: usize = 0;
-    while i < n {
-        seen = seen | s[at + i];
-        i += 1;
+    if n < 32 {
+        return zero_bytes(s, at, n);
     }
-    seen == 0
+    if zero_bytes(s, at, 32 * (n / 32)) {
+        return zero_bytes(s, at + (n - 32), 32);
+    }
+    false
 }
 
 // The k times eight bytes of s from index a are those of t from index b.

@@ -32,7 +32,7 @@ use Rattle.entries.proofs.Laws.{slots-count, has-out}
 use Rattle.wire.specs.declared.LlqNumber.{LlqNumber}
 use Rattle.wire.specs.declared.LlqOption.{LlqOption}
 use Rattle.wire.specs.Records.{optionOf}
-use Rattle.table.specs.Written.{Laid, Written}
+use Rattle.table.specs.Written.{WellFormed, Written}
 use Rattle.table.specs.Stored.{entryBytes, storedAs}
 use Rattle.table.proofs.WriteLaws.{unwritten, slot-written, establish-bytes, renew-bytes}
 use Rattle.table.proofs.EntryLaws.{pending-bytes}
@@ -50,7 +50,7 @@ address-fits high low h l =
 pub served-by : {p q : serve.Served} {b : List ℕ} {x : ServedOption} → p ≡ q → ServedAs q b x → ServedAs p b x
 served-by {b = b} {x = x} e = subst (λ (z : serve.Served). ServedAs z b x) (sym e)
 
-module _ (b : List ℕ) (bytes : Bytes b) (laid : Laid b) (n : ℕ) (size : length b ≡ sizeOf n) where
+module _ (b : List ℕ) (bytes : Bytes b) (formed : WellFormed b) (n : ℕ) (size : length b ≡ sizeOf n) where
   inside : {i : ℕ} → i < n → i < slotsIn (length b)
   inside l = omega arith
 
@@ -103,7 +103,7 @@ module _ (b : List ℕ) (bytes : Bytes b) (laid : Laid b) (n : ℕ) (size : leng
           let stays : set (readTable b .slots) (indexOf isFree (readTable b .slots)) (held new) ≡ readTable b .slots =
           set-out (readTable b .slots) (indexOf isFree (readTable b .slots)) (held new) (rw (slots-count b n size, ← is) l) in
           record {
-            table = subst (Written b) (sym (ap (serve.withSlots (readTable b)) stays)) (unwritten b laid);
+            table = subst (Written b) (sym (ap (serve.withSlots (readTable b)) stays)) (unwritten b formed);
             outcome = told x e;
           }
 
@@ -134,7 +134,7 @@ module _ (b : List ℕ) (bytes : Bytes b) (laid : Laid b) (n : ℕ) (size : leng
             record {
               table =
                   subst (λ (k : ℕ). Written y (withSlot (readTable b) k (held new))) is
-                  (slot-written b bytes laid i (held new) (inside l) (subst FitsEntry new-is f) y v);
+                  (slot-written b bytes formed i (held new) (inside l) (subst FitsEntry new-is f) y v);
               outcome = told x e;
             }
 
@@ -146,7 +146,7 @@ module _ (b : List ℕ) (bytes : Bytes b) (laid : Laid b) (n : ℕ) (size : leng
       unfolding serveSetup onSetup entryAt readEntry
       setup-found l e h x g =
           served-by (ap (onSetup (senderOf s) r q (optionOf o) (readTable b)) (found-slot (asks (senderOf s .address) (s .port) q) is l))
-          (record { table = unwritten b laid; outcome = ap outcomeOf g ∙ rw h })
+          (record { table = unwritten b formed; outcome = ap outcomeOf g ∙ rw h })
 
       lost : n ≤ i → serveSetup (senderOf s) r q (optionOf o) (readTable b)
           ≡ cond (full n (readTable b .roster) (count (holdings (readTable b))) (senderOf s .address))
@@ -159,7 +159,7 @@ module _ (b : List ℕ) (bytes : Bytes b) (laid : Laid b) (n : ℕ) (size : leng
 
       pub setup-full : n ≤ i → full n (readTable b .roster) (count (holdings (readTable b))) (senderOf s .address) ≡ true → (x : ServedOption)
           → x ≡ servedWith o out.Full → ServedAs (serveSetup (senderOf s) r q (optionOf o) (readTable b)) b x
-      setup-full l f x g = served-by (lost l ∙ rw f) (record { table = unwritten b laid; outcome = ap outcomeOf g })
+      setup-full l f x g = served-by (lost l ∙ rw f) (record { table = unwritten b formed; outcome = ap outcomeOf g })
 
       pub setup-grant : n ≤ i → full n (readTable b .roster) (count (holdings (readTable b))) (senderOf s .address) ≡ false → (y : List ℕ) (x : ServedOption)
           → ServedAs grants y x → ServedAs (serveSetup (senderOf s) r q (optionOf o) (readTable b)) y x
@@ -173,7 +173,7 @@ module _ (b : List ℕ) (bytes : Bytes b) (laid : Laid b) (n : ℕ) (size : leng
       unfolding serveResponse onResponse
       response-none l x g =
           served-by (ap (onResponse (optionOf o) (readTable b) (findEntry (answers (senderOf s) q (optionOf o)) (readTable b)))
-          (lost-slot (answers (senderOf s) q (optionOf o)) is l)) (record { table = unwritten b laid; outcome = ap outcomeOf g })
+          (lost-slot (answers (senderOf s) q (optionOf o)) is l)) (record { table = unwritten b formed; outcome = ap outcomeOf g })
 
       pub response-found : i < n → (e : Entry) → e ≡ entryAt b (slotAt i) → (left : ℕ) → left ≡ e .lease - ageAt (bigEndian b 5 4) (e .stamp) → (y : List ℕ)
           → y ≡ splice (slotAt i) 1 (bytesOf 1 6) b → (x : ServedOption) → x ≡ servedWith o (out.Established (e .number) left)
@@ -183,7 +183,7 @@ module _ (b : List ℕ) (bytes : Bytes b) (laid : Laid b) (n : ℕ) (size : leng
           let p = answers (senderOf s) q (optionOf o) in
           let d = readEntry b (slotAt i) in
           let f = fits-entry b bytes (slotAt i) in
-          let v = w ∙ establish-bytes b bytes laid i (inside l) d (found-held p is l) in
+          let v = w ∙ establish-bytes b bytes formed i (inside l) d (found-held p is l) in
           let g′ : FitsEntry (establish d) =
           record {
             address = f .address;
@@ -199,7 +199,7 @@ module _ (b : List ℕ) (bytes : Bytes b) (laid : Laid b) (n : ℕ) (size : leng
           served-by (ap (onResponse (optionOf o) (readTable b) (findEntry p (readTable b))) (found-slot p is l))
           (record {
             table = subst (λ (j : ℕ). Written y (withSlot (readTable b) j (held (establish d)))) is
-                (slot-written b bytes laid i (held (establish d)) (inside l) g′ y v);
+                (slot-written b bytes formed i (held (establish d)) (inside l) g′ y v);
             outcome = ap outcomeOf g ∙ rw (k, h, running-read b);
           })
 
@@ -211,7 +211,7 @@ module _ (b : List ℕ) (bytes : Bytes b) (laid : Laid b) (n : ℕ) (size : leng
       unfolding serveRefresh onRefresh
       refresh-none l x g =
           served-by (ap (onRefresh (optionOf o) (readTable b) (findEntry (refreshes (senderOf s) q (optionOf o)) (readTable b)))
-          (lost-slot (refreshes (senderOf s) q (optionOf o)) is l)) (record { table = unwritten b laid; outcome = ap outcomeOf g })
+          (lost-slot (refreshes (senderOf s) q (optionOf o)) is l)) (record { table = unwritten b formed; outcome = ap outcomeOf g })
 
       module _ (l : i < n) (e : Entry) (h : e ≡ entryAt b (slotAt i)) where
         abbrev d : table.Entry
@@ -243,7 +243,7 @@ module _ (b : List ℕ) (bytes : Bytes b) (laid : Laid b) (n : ℕ) (size : leng
         refresh-end z y w x g =
             served-by (refreshed ∙ on-end z _)
             (record {
-              table = subst (λ (j : ℕ). Written y (withSlot (readTable b) j ended)) is (slot-written b bytes laid i ended (inside l) tt y w);
+              table = subst (λ (j : ℕ). Written y (withSlot (readTable b) j ended)) is (slot-written b bytes formed i ended (inside l) tt y w);
               outcome = ap outcomeOf g ∙ rw h;
             })
 
@@ -256,7 +256,7 @@ module _ (b : List ℕ) (bytes : Bytes b) (laid : Laid b) (n : ℕ) (size : leng
             let rr : running ≡ readTable b .clock .running = r ∙ sym (running-read b) in
             let c = renew running (o .lease) d in
             let f = fits-entry b bytes (slotAt i) in
-            let v = w ∙ renew-bytes b bytes laid i (inside l) d (found-held p is l) running (o .lease) lease k in
+            let v = w ∙ renew-bytes b bytes formed i (inside l) d (found-held p is l) running (o .lease) lease k in
             let a : running < 256 ^ 4 = rw r (big-lt b 5 4 bytes) in
             let fits : FitsEntry c =
             record {
@@ -271,7 +271,7 @@ module _ (b : List ℕ) (bytes : Bytes b) (laid : Laid b) (n : ℕ) (size : leng
               bytes = f .bytes;
             } in
             let w′ : Written y (withSlot (readTable b) i (held (renew (readTable b .clock .running) (o .lease) d))) =
-            subst (λ (j : ℕ). Written y (withSlot (readTable b) i (held (renew j (o .lease) d)))) rr (slot-written b bytes laid i (held c) (inside l) fits y v) in
+            subst (λ (j : ℕ). Written y (withSlot (readTable b) i (held (renew j (o .lease) d)))) rr (slot-written b bytes formed i (held c) (inside l) fits y v) in
             served-by (refreshed ∙ on-renew z _)
             (record {
               table = subst (λ (j : ℕ). Written y (withSlot (readTable b) j (held (renew (readTable b .clock .running) (o .lease) d)))) is w′;
@@ -284,14 +284,14 @@ module _ (s : serve.Sender) (r : ℕ) (q : query.Question) (o : LlqOption) (t : 
   pub by-kind : serveOption s r q (optionOf o) t ≡ serveKind k s r q (optionOf o) t
   by-kind = ap (λ (z : serve.Kind). serveKind z s r q (optionOf o) t) (sym e)
 
-pub malformed-as : (s : serve.Sender) (r : ℕ) (q : query.Question) (o : LlqOption) (b : List ℕ) → Laid b → (x : ServedOption)
+pub malformed-as : (s : serve.Sender) (r : ℕ) (q : query.Question) (o : LlqOption) (b : List ℕ) → WellFormed b → (x : ServedOption)
     → ((serve.badVersion ≡ kindOfOption (optionOf o)) × (x ≡ servedWith o out.BadVersion)) ⊎ ((serve.badFormat ≡ kindOfOption (optionOf o)) × (x ≡ servedWith o out.BadFormat))
     → ServedAs (serveOption s r q (optionOf o) (readTable b)) b x
 unfolding serveKind
-malformed-as s r q o b laid x (inl h) =
-    served-by (by-kind s r q o (readTable b) serve.badVersion (h .0)) (record { table = unwritten b laid; outcome = ap outcomeOf (h .1) })
-malformed-as s r q o b laid x (inr h) =
-    served-by (by-kind s r q o (readTable b) serve.badFormat (h .0)) (record { table = unwritten b laid; outcome = ap outcomeOf (h .1) })
+malformed-as s r q o b formed x (inl h) =
+    served-by (by-kind s r q o (readTable b) serve.badVersion (h .0)) (record { table = unwritten b formed; outcome = ap outcomeOf (h .1) })
+malformed-as s r q o b formed x (inr h) =
+    served-by (by-kind s r q o (readTable b) serve.badFormat (h .0)) (record { table = unwritten b formed; outcome = ap outcomeOf (h .1) })
 
 pub setup-as : (s : serve.Sender) (r : ℕ) (q : query.Question) (o : LlqOption) (b y : List ℕ) (x : ServedOption) → serve.setup ≡ kindOfOption (optionOf o)
     → ServedAs (serveSetup s r q (optionOf o) (readTable b)) y x → ServedAs (serveOption s r q (optionOf o) (readTable b)) y x

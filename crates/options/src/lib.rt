@@ -13,7 +13,7 @@ ghost use Rattle.model.specs.Rules.{grantedLease};
 ghost use Rattle.model.specs.Serve.{kindOfOption, granted, serveSetup, serveResponse, serveRefresh, serveOption};
 ghost use Rattle.wire.specs.Records.{questionOf, optionOf};
 ghost use Rattle.entries.specs.Reads.{senderOf, asked};
-ghost use Rattle.table.specs.Written.{Laid};
+ghost use Rattle.table.specs.Written.{WellFormed};
 ghost use Rattle.options.specs.Outcomes.{kindIn, errorOf, leaseOf, repeatedNumber, outcomeOf, servedWith, ServedAs};
 
 // What an option came to.
@@ -116,13 +116,13 @@ fn grant(
     qclass: u16,
     o: LlqOption,
 ) -> ServedOption
-    requires { ⌜ Laid (now t) × (length (now t) ≡ sizeOf n) × (length (now name) ≤ 255) ⌝ }
+    requires { ⌜ WellFormed (now t) × (length (now t) ≡ sizeOf n) × (length (now name) ≤ 255) ⌝ }
     ensures { λ x. ⌜ ServedAs (granted (senderOf s) r (asked (now (name .entry)) qtype qclass) (optionOf o) (readTable (now (t .entry)))) (now (t .exit)) x ⌝ }
 {
     let number = entries::fresh_number(t, n, r);
     let lease = granted_lease(o.lease);
-    let i = entries::find_free(t, n);
-    if i >= n {
+    let j = entries::find_free(t, n);
+    if j >= n {
         return served(o, Outcome::Challenge(LlqNumber(number), lease));
     }
     let e = Entry {
@@ -137,7 +137,7 @@ fn grant(
         qclass: qclass,
         len: name.len() as u8,
     };
-    table::put_entry(t, i, e, name);
+    table::put_entry(t, j, e, name);
     served(o, Outcome::Challenge(LlqNumber(number), lease))
 }
 
@@ -151,7 +151,7 @@ fn serve_setup(
     qclass: u16,
     o: LlqOption,
 ) -> ServedOption
-    requires { ⌜ Laid (now t) × (length (now t) ≡ sizeOf n) × (length (now name) ≤ 255) ⌝ }
+    requires { ⌜ WellFormed (now t) × (length (now t) ≡ sizeOf n) × (length (now name) ≤ 255) ⌝ }
     ensures { λ x. ⌜ ServedAs (serveSetup (senderOf s) r (asked (now (name .entry)) qtype qclass) (optionOf o) (readTable (now (t .entry)))) (now (t .exit)) x ⌝ }
 {
     let i = entries::find_asked(t, n, s, name, qtype, qclass);
@@ -175,7 +175,7 @@ fn serve_response(
     qclass: u16,
     o: LlqOption,
 ) -> ServedOption
-    requires { ⌜ Laid (now t) × (length (now t) ≡ sizeOf n) ⌝ }
+    requires { ⌜ WellFormed (now t) × (length (now t) ≡ sizeOf n) ⌝ }
     ensures { λ x. ⌜ ServedAs (serveResponse (senderOf s) (asked (now (name .entry)) qtype qclass) (optionOf o) (readTable (now (t .entry)))) (now (t .exit)) x ⌝ }
 {
     let asked = o.number;
@@ -199,7 +199,7 @@ fn serve_refresh(
     qclass: u16,
     o: LlqOption,
 ) -> ServedOption
-    requires { ⌜ Laid (now t) × (length (now t) ≡ sizeOf n) ⌝ }
+    requires { ⌜ WellFormed (now t) × (length (now t) ≡ sizeOf n) ⌝ }
     ensures { λ x. ⌜ ServedAs (serveRefresh (senderOf s) (asked (now (name .entry)) qtype qclass) (optionOf o) (readTable (now (t .entry)))) (now (t .exit)) x ⌝ }
 {
     let asked = o.number;
@@ -229,7 +229,7 @@ fn serve_named(
     qclass: u16,
     o: LlqOption,
 ) -> ServedOption
-    requires { ⌜ Laid (now t) × (len ≤ 255) ⌝ }
+    requires { ⌜ WellFormed (now t) × (len ≤ 255) ⌝ }
     ensures { λ x. ⌜ ServedAs (serveOption (senderOf s) r (asked (take len name) qtype qclass) (optionOf o) (readTable (now (t .entry)))) (now (t .exit)) x ⌝ }
 {
     let n = entries::slots(t.len());
@@ -245,7 +245,7 @@ fn serve_named(
 
 // One option on its question, on the table as it stands.
 pub fn serve_option(t: &mut [u8], s: Sender, r: u64, q: Question, o: LlqOption) -> ServedOption
-    requires { ⌜ Laid (now t) × (q .len ≤ 255) ⌝ }
+    requires { ⌜ WellFormed (now t) × (q .len ≤ 255) ⌝ }
     ensures { λ x. ⌜ ServedAs (serveOption (senderOf s) r (questionOf q) (optionOf o) (readTable (now (t .entry)))) (now (t .exit)) x ⌝ }
 {
     let name = q.name;

@@ -1,10 +1,10 @@
 -- A stored name: its labels, a label a turn, and its case, a byte a turn or a block. Assumes nothing.
-use Prim.Native.Nat.{ℕ, zero, suc, _+_, _-_, _*_, _≤_, _<_}
+use Prim.Native.Nat.{ℕ, zero, suc, _+_, _-_, _≤_, _<_}
 use native.Mathlib.Nat.{add-zero, sub-zero}
 use native.Mathlib.Omega.{arith}
 use mathlib.Core.Path.{_≡_, refl, sym, ap, _∙_}
 use mathlib.Core.Bool.{Bool, true, false, not, cond, _&&_}
-use mathlib.Core.List.{List, [], _∷_, _++_}
+use mathlib.Core.List.{List, [], _∷_}
 use mathlib.Core.Logic.{_≢_}
 use lib.ListN.{length, getD}
 use lib.Bits.{bitOr}
@@ -18,7 +18,7 @@ use Rattle.model.proofs.ListLaws.{iff, and-left, and-right, and-both, every-app
 use Rattle.model.proofs.NameLaws.{below-upper}
 use Rattle.layout.proofs.ShapeLaws.{part-head}
 use Rattle.record.specs.Labels.{labelled, lowerCase}
-use Rattle.record.proofs.BitLaws.{or-zero}
+use Rattle.octets.proofs.OrLaws.{or-zero}
 
 -- THE TWO TESTS are the name's
 

@@ -115,13 +115,27 @@ fn lower_bytes(t: &[u8], at: usize, n: usize) -> bool
     x == 0
 }
 
+// The same of fewer than 32 bytes: from 16 on the first 16 and the last 16.
+fn lower_short(t: &[u8], at: usize, n: usize) -> bool
+    requires { ⌜ (n < 32) × (at + n ≤ length (now t)) ⌝ }
+    ensures { λ r. ⌜ r ≡ lowerCase (part at n (now (t .entry))) ⌝ }
+{
+    if n < 16 {
+        return lower_bytes(t, at, n);
+    }
+    if lower_bytes(t, at, 16) {
+        return lower_bytes(t, at + (n - 16), 16);
+    }
+    false
+}
+
 // The same in blocks of 32 and then the last 32.
 fn lower_case(t: &[u8], at: usize, n: usize) -> bool
     requires { ⌜ at + n ≤ length (now t) ⌝ }
     ensures { λ r. ⌜ r ≡ lowerCase (part at n (now (t .entry))) ⌝ }
 {
     if n < 32 {
-        return lower_bytes(t, at, n);
+        return lower_short(t, at, n);
     }
     if lower_bytes(t, at, 32 * (n / 32)) {
         return lower_bytes(t, at + (n - 32), 32);

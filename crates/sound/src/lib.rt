@@ -1,14 +1,14 @@
 // Whether a table's bytes are sound, and a roster's good: document 01, "A table is sound if ..".
 ghost use mathlib.Core.Path.{_≡_};
 ghost use mathlib.Core.Bool.{true, _&&_};
-ghost use Prim.Native.Nat.{_+_, _-_, _*_, _^_, _≤_, _<_};
+ghost use Prim.Native.Nat.{_+_, _*_, _^_, _≤_, _<_};
 ghost use lib.ListN.{length};
 ghost use lib.Dec.{leb, ltb};
 ghost use Rattle.model.specs.Numbers.{bigEndian};
 ghost use Rattle.model.specs.Clock.{cycle};
-ghost use Rattle.model.specs.Lists.{count, any, every};
-ghost use Rattle.model.specs.Table.{slotAt, lineAt, readLine, listed};
-ghost use Rattle.model.specs.Rules.{heldBy, limitOf, reserve};
+ghost use Rattle.model.specs.Lists.{every};
+ghost use Rattle.model.specs.Table.{slotAt, listed};
+ghost use Rattle.model.specs.Rules.{limitOf};
 ghost use Rattle.model.specs.Sound.{validLine, validEntry, soundRoster, soundHoldings, soundBytes};
 ghost use Rattle.model.specs.Calls.{goodRoster};
 ghost use Rattle.layout.specs.Shape.{all, slotShape, linesTo, tableShape};
@@ -136,69 +136,6 @@ fn entries_fit(t: &[u8], n: usize, m: usize) -> bool
     true
 }
 
-// How many entries the address holds.
-pub fn held_by(t: &[u8], n: usize, hi: u64, lo: u64) -> usize
-    requires { ⌜ (n ≤ 64) × (slotAt n ≤ length (now t)) ⌝ }
-    ensures { λ r. ⌜ (r ≤ n) × (r ≡ count (heldTo (now (t .entry)) n) (heldBy (hi * 2 ^ 64 + lo))) ⌝ }
-{
-    let mut k: usize = 0;
-    let mut i: usize = 0;
-    while i < n {
-        if record::has_holder(t, 313 + 320 * i, hi, lo) {
-            k += 1;
-        }
-        i += 1;
-    }
-    k
-}
-
-// How many entries there are.
-pub fn entries(t: &[u8], n: usize) -> usize
-    requires { ⌜ (n ≤ 64) × (slotAt n ≤ length (now t)) ⌝ }
-    ensures { λ r. ⌜ (r ≤ n) × (r ≡ count (heldTo (now (t .entry)) n) any) ⌝ }
-{
-    let mut k: usize = 0;
-    let mut i: usize = 0;
-    while i < n {
-        if record::in_use(t[313 + 320 * i]) {
-            k += 1;
-        }
-        i += 1;
-    }
-    k
-}
-
-// What line i keeps back: its share less what its address holds, where that is positive.
-fn kept_back(t: &[u8], n: usize, i: usize) -> usize
-    requires { ⌜ (n ≤ 64) × (i < 16) × (slotAt n ≤ length (now t)) ⌝ }
-    ensures { λ r. ⌜ (r < 256) × (r ≡ readLine (now (t .entry)) (lineAt i) .share - count (heldTo (now (t .entry)) n) (heldBy (readLine (now (t .entry)) (lineAt i) .address))) ⌝ }
-{
-    let a = 9 + 19 * i;
-    let share = t[a + 17] as usize;
-    if share == 0 {
-        return 0;
-    }
-    let held = held_by(t, n, octets::get64(t, a + 1), octets::get64(t, a + 9));
-    if share <= held {
-        return 0;
-    }
-    share - held
-}
-
-// The reserve, by the first m lines.
-pub fn reserve_of(t: &[u8], n: usize, m: usize) -> usize
-    requires { ⌜ (m ≤ 16) × (n ≤ 64) × (slotAt n ≤ length (now t)) ⌝ }
-    ensures { λ r. ⌜ (r ≤ 4096) × (r ≡ reserve (linesTo (now (t .entry)) m) (count (heldTo (now (t .entry)) n))) ⌝ }
-{
-    let mut s: usize = 0;
-    let mut i: usize = 0;
-    while i < m {
-        s += kept_back(t, n, i);
-        i += 1;
-    }
-    s
-}
-
 // The rules of the entries.
 fn holdings_sound(t: &[u8], n: usize, m: usize) -> bool
     requires { ⌜ (n ≤ 64) × (m ≤ 16) × (slotAt n ≤ length (now t)) × (every validLine (linesTo (now t) m) ≡ true) ⌝ }
@@ -210,7 +147,7 @@ fn holdings_sound(t: &[u8], n: usize, m: usize) -> bool
     if !entries_fit(t, n, m) {
         return false;
     }
-    reserve_of(t, n, m) + entries(t, n) <= n
+    holdings::reserve_of(t, n, m) + holdings::held(t, n) <= n
 }
 
 // The rules of a table of n slots.

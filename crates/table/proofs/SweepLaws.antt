@@ -19,9 +19,9 @@ use Rattle.model.proofs.TableLaws.{with-slot}
 use Rattle.model.proofs.RoundTrip.{slot-at}
 use Rattle.model.proofs.Meaning.{fits-read, lines-read}
 use Rattle.layout.proofs.ReadLaws.{running-read, slots-length}
-use Rattle.table.specs.Written.{Laid, Written}
+use Rattle.table.specs.Written.{WellFormed, Written}
 use Rattle.table.specs.Sweep.{firstChanged, freedTo}
-use Rattle.table.proofs.WriteLaws.{written, clock-written, written-laid}
+use Rattle.table.proofs.WriteLaws.{written, clock-written, written-formed}
 
 -- THE FIRST i SLOTS CHANGED
 
@@ -154,9 +154,9 @@ module _ (b : List ℕ) (bytes : Bytes b) (n r : ℕ) (size : length b ≡ sizeO
         → k ≡ count (take (i + 1) (readTable b .slots)) (slotRunOut r)
     count-miss k h e = took-miss (slotRunOut r) (readTable b .slots) free i k inside (sym (ap (slotRunOut r) same-slot) ∙ h) e
 
-  pub swept : (x : List ℕ) (k i : ℕ) → i ≡ n → x ≡ tableBytes (freedTo (readTable b) i) → k ≡ count (take i (readTable b .slots)) (slotRunOut r)
+  pub all-freed : (x : List ℕ) (k i : ℕ) → i ≡ n → x ≡ tableBytes (freedTo (readTable b) i) → k ≡ count (take i (readTable b .slots)) (slotRunOut r)
       → Written x (freeRunOut (readTable b)) × (k ≡ count (readTable b .slots) (slotRunOut r))
-  swept x k i e inv c =
+  all-freed x k i e inv c =
       let z : i ≡ length (readTable b .slots) = e ∙ sym count-is in
       let t = readTable b in
       let all : x ≡ tableBytes (freeRunOut t) =
@@ -167,7 +167,7 @@ module _ (b : List ℕ) (bytes : Bytes b) (n r : ℕ) (size : length b ≡ sizeO
         c ∙ ap (λ (j : ℕ). count (take j (t .slots)) (slotRunOut r)) z ∙ ap (λ (s : List Slot). count s (slotRunOut r)) (take-length (t .slots)),
       )
 
-pub sweep-start : (b : List ℕ) → Laid b → b ≡ tableBytes (freedTo (readTable b) 0)
+pub sweep-start : (b : List ℕ) → WellFormed b → b ≡ tableBytes (freedTo (readTable b) 0)
 unfolding firstChanged
 sweep-start b h = sym h
 
@@ -177,13 +177,13 @@ pub clock-is : (b : List ℕ) {p r : ℕ} → p ≡ bigEndian b 1 4 → r ≡ bi
 unfolding readTable
 clock-is b e f = rw (e, f)
 
-module _ (b : List ℕ) (bytes : Bytes b) (laid : Laid b) (c : Clock) (p : c .place < 256 ^ 4) (q : c .running < 256 ^ 4) (x : List ℕ)
+module _ (b : List ℕ) (bytes : Bytes b) (formed : WellFormed b) (c : Clock) (p : c .place < 256 ^ 4) (q : c .running < 256 ^ 4) (x : List ℕ)
     (e : x ≡ splice 1 8 (encode ((4, c .place) ∷ (4, c .running) ∷ [])) b) where
   set-clock : Written x (withClock (readTable b) c)
-  set-clock = clock-written b bytes laid c p q x e
+  set-clock = clock-written b bytes formed c p q x e
 
-  pub clock-laid : Laid x
-  clock-laid = written-laid set-clock
+  pub clock-formed : WellFormed x
+  clock-formed = written-formed set-clock
 
   pub clock-running : c .running ≡ bigEndian x 5 4
   clock-running = sym (ap (λ (t : Table). t .clock .running) (set-clock .read)) ∙ running-read x

@@ -18,23 +18,23 @@ use Rattle.model.proofs.NumberLaws.{length-splice, splice-splice, splice-part, 
 use Rattle.model.proofs.TableLaws.{with-slot, with-clock, clockFields}
 use Rattle.model.proofs.RoundTrip.{table-back}
 use Rattle.model.proofs.Meaning.{fits-read, lines-read, slots-read}
-use Rattle.layout.proofs.ReadLaws.{laid-size, laid-slot, slot-read}
-use Rattle.table.specs.Written.{Laid, Written}
+use Rattle.layout.proofs.ReadLaws.{formed-size, formed-slot, slot-read}
+use Rattle.table.specs.Written.{WellFormed, Written}
 
 -- bytes that are not written stay as they are
-pub unwritten : (b : List ℕ) → Laid b → Written b (readTable b)
-unwritten b laid = record { bytes = sym laid; read = refl }
+pub unwritten : (b : List ℕ) → WellFormed b → Written b (readTable b)
+unwritten b formed = record { bytes = sym formed; read = refl }
 
--- a table that fits is read back, and its bytes are laid
+-- a table that fits is read back, and its bytes are formed
 pub written : (b : List ℕ) (t : Table) → length (t .roster) ≤ 16 → Fits t → b ≡ tableBytes t → Written b t
 written b t l f e = record { bytes = e; read = ap readTable e ∙ table-back t l f }
 
-pub written-laid : {b : List ℕ} {t : Table} → Written b t → Laid b
-written-laid w = ap tableBytes (w .read) ∙ sym (w .bytes)
+pub written-formed : {b : List ℕ} {t : Table} → Written b t → WellFormed b
+written-formed w = ap tableBytes (w .read) ∙ sym (w .bytes)
 
 -- the size is kept
-pub laid-n : (b : List ℕ) → Bytes b → Laid b → (n : ℕ) → n ≡ slotsIn (length b) → length b ≡ sizeOf n
-laid-n b bytes laid n e = rw e (laid-size b bytes laid)
+pub formed-n : (b : List ℕ) → Bytes b → WellFormed b → (n : ℕ) → n ≡ slotsIn (length b) → length b ≡ sizeOf n
+formed-n b bytes formed n e = rw e (formed-size b bytes formed)
 
 fits-set : (ss : List Slot) (i : ℕ) (s : Slot) → FitsSlot s → ((j : ℕ) → j < length ss → FitsSlot (getD ss j free)) → (j : ℕ) → j < length (set ss i s)
     → FitsSlot (getD (set ss i s) j free)
@@ -44,7 +44,7 @@ fits-set (x ∷ ss) zero s f g (suc j) l = g (suc j) l
 fits-set (x ∷ ss) (suc i) s f g zero l = g 0 (omega arith)
 fits-set (x ∷ ss) (suc i) s f g (suc j) l = fits-set ss i s f (λ k m. g (suc k) (omega arith)) j (omega arith)
 
-module _ (b : List ℕ) (bytes : Bytes b) (laid : Laid b) where
+module _ (b : List ℕ) (bytes : Bytes b) (formed : WellFormed b) where
   -- slot i written
   pub slot-written : (i : ℕ) (s : Slot) → i < slotsIn (length b) → FitsSlot s → (x : List ℕ) → x ≡ splice (slotAt i) 320 (slotBytes s) b
       → Written x (withSlot (readTable b) i s)
@@ -52,7 +52,7 @@ module _ (b : List ℕ) (bytes : Bytes b) (laid : Laid b) where
       let r = fits-read b bytes in
       written x (withSlot (readTable b) i s) (lines-read b)
       (record { place = r .place; running = r .running; lines = r .lines; slots = fits-set (readTable b .slots) i s f (r .slots) })
-      (e ∙ ap (splice (slotAt i) 320 (slotBytes s)) (sym laid) ∙ with-slot (readTable b) (lines-read b) r i s (rw (slots-read b) l))
+      (e ∙ ap (splice (slotAt i) 320 (slotBytes s)) (sym formed) ∙ with-slot (readTable b) (lines-read b) r i s (rw (slots-read b) l))
 
   -- the clock written
   pub clock-written : (c : Clock) → c .place < 256 ^ 4 → c .running < 256 ^ 4 → (x : List ℕ) → x ≡ splice 1 8 (encode ((4, c .place) ∷ (4, c .running) ∷ [])) b
@@ -60,7 +60,7 @@ module _ (b : List ℕ) (bytes : Bytes b) (laid : Laid b) where
   clock-written c p r x e =
       let f = fits-read b bytes in
       written x (withClock (readTable b) c) (lines-read b) (record { place = p; running = r; lines = f .lines; slots = f .slots })
-      (e ∙ ap (splice 1 8 (encode ((4, c .place) ∷ (4, c .running) ∷ []))) (sym laid) ∙ with-clock (readTable b) c)
+      (e ∙ ap (splice 1 8 (encode ((4, c .place) ∷ (4, c .running) ∷ []))) (sym formed) ∙ with-clock (readTable b) c)
 
 -- SOME FIELDS OF A ROW WRITTEN
 
@@ -119,9 +119,9 @@ by-kind : (e : Entry) → slotBytes (held e) ≡ (kindOf (e .established) ∷ []
 unfolding slotBytes rest
 by-kind e = ap (λ (s : List ℕ). s ++ (e .name ++ replicate (280 - length (e .name)) 0)) (encode-first (kindOf (e .established)) (rest e) (kind-small (e .established)))
 
-module _ (b : List ℕ) (bytes : Bytes b) (laid : Laid b) (i : ℕ) (l : i < slotsIn (length b)) (e : Entry) (here : readSlot b (slotAt i) ≡ held e) where
+module _ (b : List ℕ) (bytes : Bytes b) (formed : WellFormed b) (i : ℕ) (l : i < slotsIn (length b)) (e : Entry) (here : readSlot b (slotAt i) ≡ held e) where
   row : part (slotAt i) 320 b ≡ slotBytes (held e)
-  row = sym (laid-slot b bytes laid i l) ∙ ap slotBytes here
+  row = sym (formed-slot b bytes formed i l) ∙ ap slotBytes here
 
   pub establish-bytes : splice (slotAt i) 1 (bytesOf 1 6) b ≡ splice (slotAt i) 320 (slotBytes (held (establish e))) b
   unfolding rest bytesOf
@@ -129,14 +129,14 @@ module _ (b : List ℕ) (bytes : Bytes b) (laid : Laid b) (i : ℕ) (l : i < slo
       let z : slotAt i ≡ slotAt i + 0 = omega arith in
       ap (λ (k : ℕ). splice k 1 (6 ∷ []) b) z
       ∙ row-edit b [] (kindOf (e .established) ∷ []) (encode (rest e) ++ (e .name ++ replicate (280 - length (e .name)) 0)) (6 ∷ []) (slotAt i) 0 1 320
-      (omega (arith, laid-size b bytes laid)) (row ∙ by-kind e) refl refl
+      (omega (arith, formed-size b bytes formed)) (row ∙ by-kind e) refl refl
       ∙ ap (λ (s : List ℕ). splice (slotAt i) 320 s b) (sym (by-kind (establish e)))
 
   pub renew-bytes : (running asked lease : ℕ) → lease ≡ grantedLease asked
       → splice (slotAt i + 27) 8 (encode ((4, lease) ∷ (4, running) ∷ [])) b ≡ splice (slotAt i) 320 (slotBytes (held (renew running asked e))) b
   renew-bytes running asked lease g =
       row-edit b (encode (before e)) (encode (times e)) (behind e) (encode ((4, lease) ∷ (4, running) ∷ [])) (slotAt i) 27 8 320
-      (omega (arith, laid-size b bytes laid)) (row ∙ in-parts e) (length-encode (before e)) (length-encode (times e))
+      (omega (arith, formed-size b bytes formed)) (row ∙ in-parts e) (length-encode (before e)) (length-encode (times e))
       ∙ ap (λ (s : List ℕ). splice (slotAt i) 320 s b)
       (ap (λ (k : ℕ). encode (before e) ++ (encode ((4, k) ∷ (4, running) ∷ []) ++ behind e)) g ∙ sym (in-parts (renew running asked e)))
 

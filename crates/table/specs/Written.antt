@@ -5,8 +5,8 @@ use mathlib.Core.List.{List}
 use Rattle.model.specs.Table.{Table, tableBytes, readTable}
 
 -- the bytes are those of the table that they are read as
-abbrev pub Laid : List ℕ → Type 0
-Laid b = tableBytes (readTable b) ≡ b
+abbrev pub WellFormed : List ℕ → Type 0
+WellFormed b = tableBytes (readTable b) ≡ b
 
 -- the bytes are those of this table, and it is read back from them
 pub record Written (b : List ℕ) (t : Table) : Type 0 where

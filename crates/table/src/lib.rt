@@ -13,7 +13,7 @@ ghost use Rattle.model.specs.Clock.{cycle};
 ghost use Rattle.model.specs.Table.{slotAt, lineAt, sizeOf, readTable, tableBytes, slotBytes, unusedLine};
 ghost use Rattle.model.specs.Serve.{ended, slotRunOut, movedOn, freeRunOut};
 ghost use Rattle.model.specs.Calls.{freedBy, goodRoster};
-ghost use Rattle.table.specs.Written.{Laid, Written};
+ghost use Rattle.table.specs.Written.{WellFormed, Written};
 ghost use Rattle.table.specs.Stored.{kindByte, whoFields, whatFields, nameBytes, entryBytes};
 ghost use Rattle.table.specs.Fresh.{unusedLines, freeSlots, fresh};
 
@@ -134,7 +134,7 @@ fn put_clock(t: &mut [u8], c: Clock)
 
 // Entries that have run out end. Returns how many there were.
 fn free_run_out(t: &mut [u8], n: usize, running: u32) -> usize
-    requires { ⌜ (length (now t) ≡ sizeOf n) × (running ≡ bigEndian (now t) 5 4) × Laid (now t) ⌝ }
+    requires { ⌜ (length (now t) ≡ sizeOf n) × (running ≡ bigEndian (now t) 5 4) × WellFormed (now t) ⌝ }
     ensures { λ r. ⌜ Written (now (t .exit)) (freeRunOut (readTable (now (t .entry)))) × (r ≡ count (readTable (now (t .entry)) .slots) (slotRunOut running)) ⌝ }
 {
     let mut k: usize = 0;
@@ -151,7 +151,7 @@ fn free_run_out(t: &mut [u8], n: usize, running: u32) -> usize
 
 // The clock is moved on to a place, then run-out entries end. Returns how many there were.
 pub fn move_on(t: &mut [u8], place: u32) -> usize
-    requires { ⌜ Laid (now t) × (bigEndian (now t) 1 4 < cycle) × (place < cycle) ⌝ }
+    requires { ⌜ WellFormed (now t) × (bigEndian (now t) 1 4 < cycle) × (place < cycle) ⌝ }
     ensures { λ r. ⌜ Written (now (t .exit)) (movedOn (readTable (now (t .entry))) place) × (r ≡ freedBy (readTable (now (t .entry))) place) ⌝ }
 {
     let n = entries::slots(t.len());

@@ -6,16 +6,16 @@ use native.Mathlib.Omega.{arith}
 use mathlib.Core.Path.{_≡_, sym, ap, _∙_}
 use borrow.Author.Needs.{needs}
 use borrow.Author.Tests.{not-true, not-false, eq-eqb, ne-eqb}
-use lib.ListN.{getD}
+use lib.ListN.{length, getD}
 use Rattle.model.specs.Table.{readEntry}
 use Rattle.model.proofs.NumberLaws.{length-part, part-all}
 use Rattle.layout.specs.Held.{holdingAt}
-use Rattle.layout.proofs.AddressLaws.{same-length}
+use Rattle.octets.proofs.Laws.{same-no}
 use Rattle.entries.proofs.entry_asks.Statement.{statement}
 use Rattle.entries.proofs.entry_asks.Tie as tie
 use Rattle.entries.proofs.entry_asks.Reads as reads
 use Rattle.entries.proofs.entry_asks.Lts as lts
-use Rattle.entries.proofs.has_address.Reads as has-address-reads
+use Rattle.record.proofs.has_address.Reads as has-address-reads
 use Rattle.octets.proofs.equal.Reads as equal-reads
 use Rattle.octets.proofs.get16.Reads as get16-reads
 
@@ -94,7 +94,7 @@ returns-5 c =
       ← c .before .before .before .get163 .ensures,
       eq-eqb _ _ (c .before .before .if4 .left),
     )
-    (sym (same-length _ _ (λ z. c .if5 .taken (sym l ∙ z))))
+    (sym (same-no _ _ (λ z. c .if5 .taken (sym l ∙ ap length z))))
 
 add-equal : tie.Need-add-equal
 add-equal c = search needs

@@ -1,17 +1,18 @@
 -- `entries::find_free` meets its contract. Assumes nothing.
 use Prim.Native.Nat.{_-_, _≤_}
 use native.Mathlib.Omega.{arith}
-use mathlib.Core.Path.{_≡_, sym, _∙_}
+use mathlib.Core.Path.{_≡_, sym, ap, _∙_}
 use borrow.Author.Needs.{needs}
 use borrow.Author.Tests.{not-true, not-false}
 use Rattle.model.specs.Serve.{isFree}
 use Rattle.entries.specs.Reads.{noneTo}
+use Rattle.layout.proofs.ReadLaws.{read-held, read-free}
 use Rattle.entries.proofs.Laws as law
 use Rattle.entries.proofs.find_free.Statement.{statement}
 use Rattle.entries.proofs.find_free.Tie as tie
 use Rattle.entries.proofs.find_free.Reads as reads
 use Rattle.entries.proofs.find_free.Lts as lts
-use Rattle.entries.proofs.in_use.Reads as in-use-reads
+use Rattle.record.proofs.in_use.Reads as in-use-reads
 
 abbrev Inv-loop : tie.InvT-loop
 Inv-loop t n i₀ i = (i ≤ n) × noneTo t isFree i
@@ -36,7 +37,7 @@ in-use-requires c κs = search needs
 
 returns : tie.Need-returns Inv-loop μ-loop
 returns c =
-    sym (law.index-here _ _ (c .before .before .before .before .before .before .pre) isFree (c .before .before .before .before .loop .i) (omega arith) (c .before .before .before .before .loop .inv .1) (law.free-out _ _ (sym (c .before .in-use .ensures) ∙ not-true _ (c .if1 .taken))))
+    sym (law.index-here _ _ (c .before .before .before .before .before .before .pre) isFree (c .before .before .before .before .loop .i) (omega arith) (c .before .before .before .before .loop .inv .1) (ap isFree (read-free _ _ (sym (c .before .in-use .ensures) ∙ not-true _ (c .if1 .taken)))))
 
 add-i : tie.Need-add-i Inv-loop μ-loop
 add-i c = search needs
@@ -46,7 +47,7 @@ loop-less c = search needs
 
 loop-again : tie.Need-loop-again Inv-loop μ-loop
 loop-again c =
-    (omega arith, law.none-still _ isFree (c .before .before .before .before .loop .i) (law.free-in _ _ (sym (c .before .in-use .ensures) ∙ not-false _ (c .if1 .left))) (c .before .before .before .before .loop .inv .1))
+    (omega arith, law.none-still _ isFree (c .before .before .before .before .loop .i) (ap isFree (read-held _ _ (sym (c .before .in-use .ensures) ∙ not-false _ (c .if1 .left)))) (c .before .before .before .before .loop .inv .1))
 
 returns-2 : tie.Need-returns-2 Inv-loop μ-loop
 returns-2 c =

@@ -7,15 +7,15 @@ use Rattle.entries.proofs.is_full.Statement.{statement}
 use Rattle.entries.proofs.is_full.Tie as tie
 use Rattle.entries.proofs.is_full.Reads as reads
 use Rattle.entries.proofs.is_full.Lts as lts
-use Rattle.entries.proofs.held.Reads as held-reads
-use Rattle.entries.proofs.held_by.Reads as held-by-reads
-use Rattle.entries.proofs.limit_of.Reads as limit-of-reads
-use Rattle.entries.proofs.lines.Reads as lines-reads
-use Rattle.entries.proofs.reserve_of.Reads as reserve-of-reads
-use Rattle.entries.proofs.share_of.Reads as share-of-reads
+use Rattle.holdings.proofs.held.Reads as held-reads
+use Rattle.holdings.proofs.held_by.Reads as held-by-reads
+use Rattle.holdings.proofs.reserve_of.Reads as reserve-of-reads
+use Rattle.roster.proofs.limit_of.Reads as limit-of-reads
+use Rattle.roster.proofs.listed_lines.Reads as listed-lines-reads
+use Rattle.roster.proofs.share_of.Reads as share-of-reads
 
-lines-requires : tie.Need-lines-requires
-lines-requires c κs = search needs
+listed-lines-requires : tie.Need-listed-lines-requires
+listed-lines-requires c κs = search needs
 
 held-by-requires : tie.Need-held-by-requires
 held-by-requires c κs = search needs
@@ -25,14 +25,16 @@ limit-of-requires c κs = search needs
 
 returns : tie.Need-returns
 returns c =
-    sym (law.full-limit (c .before .before .before .before .before .args .t .now) (c .before .before .before .before .before .args .n) (addressOf (c .before .before .before .before .before .args .high) (c .before .before .before .before .before .args .low)) (c .before .before .before .lines .ensures .0) (c .before .before .held-by .ensures) (c .before .limit-of .ensures) (c .if1 .taken))
+    let a = c .before .before .before .before .before .args in
+    sym (law.full-limit (a .t .now) (a .n) (addressOf (a .high) (a .low)) (c .before .before .before .before .before .pre) (c .before .before .before .listed-lines .ensures .0) (c .before .before .held-by .ensures .1) (c .before .limit-of .ensures) (c .if1 .taken))
 
 share-of-requires : tie.Need-share-of-requires
 share-of-requires c κs = search needs
 
 returns-2 : tie.Need-returns-2
 returns-2 c =
-    sym (law.full-share (c .before .before .before .before .before .before .before .args .t .now) (c .before .before .before .before .before .before .before .args .n) (addressOf (c .before .before .before .before .before .before .before .args .high) (c .before .before .before .before .before .before .before .args .low)) (c .before .before .before .before .before .lines .ensures .0) (c .before .before .before .before .held-by .ensures) (c .before .before .before .limit-of .ensures) (c .before .before .if1 .left) (c .before .share-of .ensures) (c .if2 .taken))
+    let a = c .before .before .before .before .before .before .before .args in
+    sym (law.full-share (a .t .now) (a .n) (addressOf (a .high) (a .low)) (c .before .before .before .before .before .before .before .pre) (c .before .before .before .before .before .listed-lines .ensures .0) (c .before .before .before .before .held-by .ensures .1) (c .before .before .before .limit-of .ensures) (c .before .before .if1 .left) (c .before .share-of .ensures) (c .if2 .taken))
 
 held-requires : tie.Need-held-requires
 held-requires c κs = search needs
@@ -45,15 +47,15 @@ reserve-of-requires c κs = search needs
 
 returns-3 : tie.Need-returns-3
 returns-3 c =
-    sym
-    (law.full-room (c .before .before .before .before .before .before .before .before .before .args .t .now) (c .before .before .before .before .before .before .before .before .before .args .n) (addressOf (c .before .before .before .before .before .before .before .before .before .args .high) (c .before .before .before .before .before .before .before .before .before .args .low)) (c .before .before .before .before .before .before .before .lines .ensures .0) (c .before .before .before .before .before .before .held-by .ensures) (c .before .before .before .before .before .limit-of .ensures) (c .before .before .before .before .if1 .left) (c .before .before .before .share-of .ensures)
-    (c .before .before .if2 .left) (c .before .held .ensures .0) (c .reserve-of .ensures))
+    let a = c .before .before .before .before .before .before .before .before .before .args in
+    sym (law.full-room (a .t .now) (a .n) (addressOf (a .high) (a .low)) (c .before .before .before .before .before .before .before .before .before .pre) (c .before .before .before .before .before .before .before .listed-lines .ensures .0) (c .before .before .before .before .before .before .held-by .ensures .1) (c .before .before .before .before .before .limit-of .ensures) (c .before .before .before .before .if1 .left) (c .before .before .before .share-of .ensures)
+    (c .before .before .if2 .left) (c .before .held .ensures .1) (c .reserve-of .ensures .1))
 
 pub is-full-spec : {M : Type 1} → statement M
 is-full-spec =
     tie.close
     (tie.spec
-    lines-requires
+    listed-lines-requires
     held-by-requires
     limit-of-requires
     returns

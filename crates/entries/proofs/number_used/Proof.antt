@@ -6,13 +6,14 @@ use borrow.Author.Needs.{needs}
 use Rattle.model.specs.Numbers.{bigEndian}
 use Rattle.model.specs.Rules.{numbered}
 use Rattle.model.specs.Serve.{has}
+use Rattle.layout.specs.Held.{holdingAt}
 use Rattle.entries.specs.Reads.{noneTo}
 use Rattle.entries.proofs.Laws as law
 use Rattle.entries.proofs.number_used.Statement.{statement}
 use Rattle.entries.proofs.number_used.Tie as tie
 use Rattle.entries.proofs.number_used.Reads as reads
 use Rattle.entries.proofs.number_used.Lts as lts
-use Rattle.entries.proofs.slot_numbered.Reads as slot-numbered-reads
+use Rattle.record.proofs.has_number.Reads as has-number-reads
 
 abbrev Inv-loop : tie.InvT-loop
 Inv-loop t n x i₀ i = (i ≤ n) × noneTo t (has (bigEndian t 5 4) (numbered x)) i
@@ -23,12 +24,19 @@ abbrev μ-loop : tie.MeasureT-loop
 loop-holds : tie.Need-loop-holds Inv-loop μ-loop
 loop-holds c = (search needs, law.none-yet _ _)
 
-slot-numbered-requires : tie.Need-slot-numbered-requires Inv-loop μ-loop
-slot-numbered-requires c κs = search needs
+mul-has-number : tie.Need-mul-has-number Inv-loop μ-loop
+mul-has-number c = search needs
+
+add-has-number : tie.Need-add-has-number Inv-loop μ-loop
+add-has-number c = search needs
+
+has-number-requires : tie.Need-has-number-requires Inv-loop μ-loop
+has-number-requires c κs = search needs
 
 returns : tie.Need-returns Inv-loop μ-loop
+unfolding holdingAt
 returns c =
-    sym (law.used-hit _ _ (c .before .before .before .before .before .pre) _ (c .before .before .before .loop .i) (omega arith) (sym (c .before .slot-numbered .ensures) ∙ c .if1 .taken))
+    sym (law.used-hit _ _ (c .before .before .before .before .before .pre) _ (c .before .before .before .loop .i) (omega arith) (law.has-is _ _ _ _ ∙ sym (c .before .has-number .ensures) ∙ c .if1 .taken))
 
 add-i : tie.Need-add-i Inv-loop μ-loop
 add-i c = search needs
@@ -37,8 +45,9 @@ loop-less : tie.Need-loop-less Inv-loop μ-loop
 loop-less c = search needs
 
 loop-again : tie.Need-loop-again Inv-loop μ-loop
+unfolding holdingAt
 loop-again c =
-    (omega arith, law.none-still _ _ (c .before .before .before .loop .i) (sym (c .before .slot-numbered .ensures) ∙ c .if1 .left) (c .before .before .before .loop .inv .1))
+    (omega arith, law.none-still _ _ (c .before .before .before .loop .i) (law.has-is _ _ _ _ ∙ sym (c .before .has-number .ensures) ∙ c .if1 .left) (c .before .before .before .loop .inv .1))
 
 returns-2 : tie.Need-returns-2 Inv-loop μ-loop
 returns-2 c =
@@ -52,7 +61,9 @@ number-used-spec =
     Inv-loop
     μ-loop
     loop-holds
-    slot-numbered-requires
+    mul-has-number
+    add-has-number
+    has-number-requires
     returns
     add-i
     loop-less

@@ -8,7 +8,7 @@ use Rattle.entries.proofs.run_out.Tie as tie
 use Rattle.entries.proofs.run_out.Reads as reads
 use Rattle.entries.proofs.run_out.Lts as lts
 use Rattle.clock.proofs.run_out.Reads as run-out-reads
-use Rattle.entries.proofs.in_use.Reads as in-use-reads
+use Rattle.record.proofs.in_use.Reads as in-use-reads
 use Rattle.octets.proofs.get32.Reads as get32-reads
 
 mul-a : tie.Need-mul-a

@@ -11,7 +11,7 @@ use Rattle.entries.proofs.slot_answers.Tie as tie
 use Rattle.entries.proofs.slot_answers.Reads as reads
 use Rattle.entries.proofs.slot_answers.Lts as lts
 use Rattle.entries.proofs.entry_asks.Reads as entry-asks-reads
-use Rattle.entries.proofs.in_use.Reads as in-use-reads
+use Rattle.record.proofs.in_use.Reads as in-use-reads
 use Rattle.octets.proofs.get32.Reads as get32-reads
 use Rattle.octets.proofs.get64.Reads as get64-reads
 

@@ -8,7 +8,7 @@ use Rattle.entries.proofs.slot_asks.Tie as tie
 use Rattle.entries.proofs.slot_asks.Reads as reads
 use Rattle.entries.proofs.slot_asks.Lts as lts
 use Rattle.entries.proofs.entry_asks.Reads as entry-asks-reads
-use Rattle.entries.proofs.in_use.Reads as in-use-reads
+use Rattle.record.proofs.in_use.Reads as in-use-reads
 
 mul-a : tie.Need-mul-a
 mul-a c = search needs

@@ -11,40 +11,33 @@ use Rattle.octets.proofs.copy.Reads as copy-reads
 use Rattle.wire.proofs.write.put_header.Reads as put-header-reads
 use Rattle.wire.proofs.write.put_opt.Reads as put-opt-reads
 
--- src/lib.rt:37:57
 cast-put-header : tie.Need-cast-put-header
 cast-put-header c = search needs
 
--- src/lib.rt:37:5
 put-header-requires : tie.Need-put-header-requires
 put-header-requires c κs = search needs
 
--- src/lib.rt:38:36
 sub-copy : tie.Need-sub-copy
 sub-copy c = search needs
 
--- src/lib.rt:38:5
 copy-requires : tie.Need-copy-requires
 copy-requires c κs = search needs
 
--- src/lib.rt:39:5
 put-opt-requires : tie.Need-put-opt-requires
 put-opt-requires c κs = search needs
 
--- src/lib.rt:31:1
 same-length : tie.Need-same-length
 same-length c = search needs
 
--- src/lib.rt:31:1
 returns : tie.Need-returns
 returns c =
     let z = c .before .before .before .before .before .before .before .before .before .before .before .before .before .before in
-    let h = z .pre .0 in
+    let h = z .pre .2 in
     rw (
       c .before .before .put-opt .ensures,
       c .before .before .before .before .before .before .copy .ensures,
       c .before .before .before .before .before .before .before .before .before .before .put-header .ensures,
-      header-is (now (z .args .d)) _ _ _ (h .number) (h .desired) (h .count),
+      header-is (now (z .args .d)) _ _ _ (z .pre .0) (z .pre .1) (h .count),
       h .end,
     )
     (front-written (now (z .args .d)) (z .args .k) (omega (arith, h .end, h .from)) (omega (arith, h .end, h .within)) (z .args .reply .now) (omega (arith, h .end, z)))

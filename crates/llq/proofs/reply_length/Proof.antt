@@ -12,7 +12,7 @@ add-result : tie.Need-add-result
 add-result c = search needs
 
 returns : tie.Need-returns
-returns c = length-mismatched (now (c .before .before .before .args .d)) (c .before .before .before .args .q) (c .before .before .before .pre) (not-true _ (c .before .if1 .taken))
+returns c = length-mismatched (now (c .before .args .d)) _ _ _ (c .before .pre .0) (c .before .pre .1) (not-true _ (c .if1 .taken))
 
 add-result-2 : tie.Need-add-result-2
 add-result-2 c = search needs
@@ -24,7 +24,7 @@ add-result-3 : tie.Need-add-result-3
 add-result-3 c = search needs
 
 returns-2 : tie.Need-returns-2
-returns-2 c = length-matched (now (c .before .before .before .before .args .d)) (c .before .before .before .before .args .q) (c .before .before .before .before .pre) (not-false _ (c .before .before .if1 .left))
+returns-2 c = length-matched (now (c .before .args .d)) _ _ _ (c .before .pre .0) (c .before .pre .1) (not-false _ (c .if1 .left))
 
 pub reply-length-spec : {M : Type 1} → statement M
 reply-length-spec =

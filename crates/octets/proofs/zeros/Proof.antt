@@ -1,59 +1,54 @@
--- The proof of `zeros`. Assumes nothing.
+-- `octets::zeros` meets its contract: the blocks and the last 32 cover all. Assumes nothing.
+use Prim.Native.Nat.{_*_, _/_}
+use mathlib.Core.Path.{sym, _∙_}
+use native.Mathlib.Omega.{arith}
+use borrow.Author.Needs.{needs}
+use Rattle.octets.proofs.OrLaws.{zero-cover}
 use Rattle.octets.proofs.zeros.Statement.{statement}
 use Rattle.octets.proofs.zeros.Tie as tie
-use borrow.Author.Needs.{needs}
-use Prim.Native.Nat.{_-_, _≤_}
-use native.Mathlib.Omega.{arith}
-use mathlib.Core.Path.{_≡_, refl}
-use lib.Dec.{eqb}
-use denote.Ref.{now}
-use Rattle.model.specs.Lists.{same}
-use Rattle.model.specs.Numbers.{part}
-use Rattle.octets.proofs.Laws.{noughts, zeros-next}
+use Rattle.octets.proofs.zeros.Reads as reads
+use Rattle.octets.proofs.zeros.Lts as lts
+use Rattle.octets.proofs.zero_bytes.Reads as zero-bytes-reads
 
-abbrev Inv-loop : tie.InvT-loop
-Inv-loop s at n seen₀ i₀ seen i = (i ≤ n) × (eqb seen 0 ≡ same (noughts i) (part at i s))
+zero-bytes-requires : tie.Need-zero-bytes-requires
+zero-bytes-requires c κs = search needs
 
-abbrev μ-loop : tie.MeasureT-loop
-μ-loop s at n seen₀ i₀ seen i = n - i
+returns : tie.Need-returns
+returns c = search needs
 
-loop-holds : tie.Need-loop-holds Inv-loop μ-loop
-unfolding same part
-loop-holds c = (omega arith, refl)
+mul-zero-bytes : tie.Need-mul-zero-bytes
+mul-zero-bytes c = search needs
 
-add-seen : tie.Need-add-seen Inv-loop μ-loop
-add-seen c = search needs
+zero-bytes-requires-2 : tie.Need-zero-bytes-requires-2
+zero-bytes-requires-2 c κs = search needs
 
-shared-slice-read-seen : tie.Need-shared-slice-read-seen Inv-loop μ-loop
-shared-slice-read-seen c = search needs
+add-zero-bytes : tie.Need-add-zero-bytes
+add-zero-bytes c = search needs
 
-add-i : tie.Need-add-i Inv-loop μ-loop
-add-i c = search needs
+zero-bytes-requires-3 : tie.Need-zero-bytes-requires-3
+zero-bytes-requires-3 c κs = search needs
 
-loop-less : tie.Need-loop-less Inv-loop μ-loop
-loop-less c = search needs
+returns-2 : tie.Need-returns-2
+returns-2 c =
+    let a = c .before .before .before .before .before .args in
+    let z = zero-cover (a .s .now) (a .at) (a .n) (32 * (a .n / 32)) 32 (omega arith) (omega arith) (omega arith) (omega arith) in
+    c .zero-bytes3 .ensures ∙ (rw (sym (c .before .before .zero-bytes2 .ensures) ∙ c .before .if2 .taken) at z)
 
-loop-again : tie.Need-loop-again Inv-loop μ-loop
-loop-again c =
-    let l = c .before .before .loop in
-    let a = c .before .before .before .args in
-    (omega arith, zeros-next (now (a .s)) (a .at) (l .i) (l .seen) (omega arith) (l .inv .1))
-
-returns : tie.Need-returns Inv-loop μ-loop
-returns c =
-    let e : c .before .loop .i ≡ c .before .before .args .n = omega arith in
-    rw e at (c .before .loop .inv .1)
+returns-3 : tie.Need-returns-3
+returns-3 c =
+    let a = c .before .before .before .before .args in
+    let z = zero-cover (a .s .now) (a .at) (a .n) (32 * (a .n / 32)) 32 (omega arith) (omega arith) (omega arith) (omega arith) in
+    rw (sym (c .before .zero-bytes2 .ensures) ∙ c .if2 .left) at z
 
 pub zeros-spec : {M : Type 1} → statement M
 zeros-spec =
     tie.close
     (tie.spec
-    Inv-loop
-    μ-loop
-    loop-holds
-    add-seen
-    shared-slice-read-seen
-    add-i
-    loop-less
-    loop-again
-    returns)
+    zero-bytes-requires
+    returns
+    mul-zero-bytes
+    zero-bytes-requires-2
+    add-zero-bytes
+    zero-bytes-requires-3
+    returns-2
+    returns-3)

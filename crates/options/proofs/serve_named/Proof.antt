@@ -9,7 +9,7 @@ use mathlib.Core.Path.{_≡_, sym, ap, _∙_}
 use borrow.Author.Needs.{needs}
 use lib.ListN.{take}
 use Rattle.entries.specs.Reads.{senderOf, asked}
-use Rattle.table.proofs.WriteLaws.{laid-n}
+use Rattle.table.proofs.WriteLaws.{formed-n}
 use Rattle.options.proofs.OptionLaws as law
 use Rattle.options.proofs.serve_named.Statement.{statement}
 use Rattle.options.proofs.serve_named.Tie as tie
@@ -54,7 +54,7 @@ part-serve-setup-end c = search needs
 
 serve-setup-requires : tie.Need-serve-setup-requires
 serve-setup-requires c κs =
-    (c .before .before .before .before .before .before .before .before .pre .0, laid-n (c .before .before .before .before .before .before .before .before .args .t .now) (λ j. omega (arith, c .before .before .before .before .before .before .before .slice-known .given j)) (c .before .before .before .before .before .before .before .before .pre .0) _ (c .before .before .before .before .before .before .slots .ensures), simp length-take (omega arith))
+    (c .before .before .before .before .before .before .before .before .pre .0, formed-n (c .before .before .before .before .before .before .before .before .args .t .now) (λ j. omega (arith, c .before .before .before .before .before .before .before .slice-known .given j)) (c .before .before .before .before .before .before .before .before .pre .0) _ (c .before .before .before .before .before .before .slots .ensures), simp length-take (omega arith))
 
 enum-told-4 : tie.Need-enum-told-4
 enum-told-4 c = search needs
@@ -70,7 +70,7 @@ part-serve-response-end c = search needs
 
 serve-response-requires : tie.Need-serve-response-requires
 serve-response-requires c κs =
-    (c .before .before .before .before .before .before .before .before .pre .0, laid-n (c .before .before .before .before .before .before .before .before .args .t .now) (λ j. omega (arith, c .before .before .before .before .before .before .before .slice-known .given j)) (c .before .before .before .before .before .before .before .before .pre .0) _ (c .before .before .before .before .before .before .slots .ensures))
+    (c .before .before .before .before .before .before .before .before .pre .0, formed-n (c .before .before .before .before .before .before .before .before .args .t .now) (λ j. omega (arith, c .before .before .before .before .before .before .before .slice-known .given j)) (c .before .before .before .before .before .before .before .before .pre .0) _ (c .before .before .before .before .before .before .slots .ensures))
 
 enum-told-5 : tie.Need-enum-told-5
 enum-told-5 c = search needs
@@ -86,7 +86,7 @@ part-serve-refresh-end c = search needs
 
 serve-refresh-requires : tie.Need-serve-refresh-requires
 serve-refresh-requires c κs =
-    (c .before .before .before .before .before .before .before .before .pre .0, laid-n (c .before .before .before .before .before .before .before .before .args .t .now) (λ j. omega (arith, c .before .before .before .before .before .before .before .slice-known .given j)) (c .before .before .before .before .before .before .before .before .pre .0) _ (c .before .before .before .before .before .before .slots .ensures))
+    (c .before .before .before .before .before .before .before .before .pre .0, formed-n (c .before .before .before .before .before .before .before .before .args .t .now) (λ j. omega (arith, c .before .before .before .before .before .before .before .slice-known .given j)) (c .before .before .before .before .before .before .before .before .pre .0) _ (c .before .before .before .before .before .before .slots .ensures))
 
 returns : tie.Need-returns
 returns c =

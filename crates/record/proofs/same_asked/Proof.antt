@@ -1,14 +1,14 @@
 -- `record::same_asked` meets its contract: one field after the other. Assumes nothing.
 use Prim.Native.Nat.{_+_}
-use mathlib.Core.Path.{sym, _∙_}
+use mathlib.Core.Path.{sym, ap, _∙_}
 use native.Mathlib.Omega.{arith}
 use borrow.Author.Needs.{needs}
 use borrow.Author.Tests.{eq-eqb, ne-eqb}
-use lib.ListN.{getD}
+use lib.ListN.{length, getD}
 use Rattle.model.specs.Table.{readEntry}
 use Rattle.model.proofs.NumberLaws.{length-part}
 use Rattle.layout.specs.Held.{holdingAt}
-use Rattle.layout.proofs.AddressLaws.{same-length}
+use Rattle.octets.proofs.Laws.{same-no}
 use Rattle.record.proofs.same_asked.Statement.{statement}
 use Rattle.record.proofs.same_asked.Tie as tie
 use Rattle.record.proofs.same_asked.Reads as reads
@@ -111,7 +111,7 @@ returns-4 c =
       ← c .before .before .before .before .before .get165 .ensures,
       ← c .before .before .before .before .get166 .ensures,
       eq-eqb _ _ (c .before .before .before .if3 .left),
-    ) (sym (same-length _ _ (λ z. c .if4 .taken (sym la ∙ z ∙ lc))))
+    ) (sym (same-no _ _ (λ z. c .if4 .taken (sym la ∙ ap length z ∙ lc))))
 
 add-equal : tie.Need-add-equal
 add-equal c = search needs

@@ -4,7 +4,7 @@ use mathlib.Core.Path.{_≡_, refl, sym}
 use native.Mathlib.Omega.{arith}
 use borrow.Author.Needs.{needs}
 use Rattle.model.specs.Table.{listed}
-use Rattle.layout.proofs.LineLaws.{listed-more, listed-stop}
+use Rattle.model.proofs.RoundTrip.{listed-more, listed-stop}
 use Rattle.roster.proofs.listed_lines.Statement.{statement}
 use Rattle.roster.proofs.listed_lines.Tie as tie
 use Rattle.roster.proofs.listed_lines.Reads as reads

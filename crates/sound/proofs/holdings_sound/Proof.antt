@@ -7,10 +7,10 @@ use Rattle.sound.proofs.holdings_sound.Statement.{statement}
 use Rattle.sound.proofs.holdings_sound.Tie as tie
 use Rattle.sound.proofs.holdings_sound.Reads as reads
 use Rattle.sound.proofs.holdings_sound.Lts as lts
-use Rattle.sound.proofs.entries.Reads as entries-reads
 use Rattle.sound.proofs.entries_fit.Reads as entries-fit-reads
 use Rattle.sound.proofs.entries_valid.Reads as entries-valid-reads
-use Rattle.sound.proofs.reserve_of.Reads as reserve-of-reads
+use Rattle.holdings.proofs.held.Reads as held-reads
+use Rattle.holdings.proofs.reserve_of.Reads as reserve-of-reads
 
 entries-valid-requires : tie.Need-entries-valid-requires
 entries-valid-requires c κs = search needs
@@ -27,8 +27,8 @@ returns-2 c = rw (holdings-is, sym (c .before .before .before .entries-valid .en
 reserve-of-requires : tie.Need-reserve-of-requires
 reserve-of-requires c κs = search needs
 
-entries-requires : tie.Need-entries-requires
-entries-requires c κs = search needs
+held-requires : tie.Need-held-requires
+held-requires c κs = search needs
 
 add-result : tie.Need-add-result
 add-result c = search needs
@@ -40,7 +40,7 @@ returns-3 c =
       sym (c .before .before .before .before .before .entries-valid .ensures) ∙ not-false _ (c .before .before .before .before .if1 .left),
       sym (c .before .before .before .entries-fit .ensures) ∙ not-false _ (c .before .before .if2 .left),
       c .before .reserve-of .ensures .1,
-      c .entries .ensures .1,
+      c .held .ensures .1,
     )
 
 pub holdings-sound-spec : {M : Type 1} → statement M
@@ -52,6 +52,6 @@ holdings-sound-spec =
     entries-fit-requires
     returns-2
     reserve-of-requires
-    entries-requires
+    held-requires
     add-result
     returns-3)

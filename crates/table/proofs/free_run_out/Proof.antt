@@ -73,7 +73,7 @@ returns : tie.Need-returns Inv-loop μ-loop
 returns c =
     let l = c .before .loop in
     let a = c .before .before .before .args in
-    sweep.swept (a .t .now) (λ j. omega (arith, c .before .before .slice-known .given j)) (a .n) (a .running) (omega arith) (c .before .before .before .pre .1) (l .t) (l .k) (l .i) (omega arith) (l .inv .3) (l .inv .4)
+    sweep.all-freed (a .t .now) (λ j. omega (arith, c .before .before .slice-known .given j)) (a .n) (a .running) (omega arith) (c .before .before .before .pre .1) (l .t) (l .k) (l .i) (omega arith) (l .inv .3) (l .inv .4)
 
 pub free-run-out-spec : {M : Type 1} → statement M
 free-run-out-spec =

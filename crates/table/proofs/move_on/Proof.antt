@@ -23,29 +23,29 @@ slots-requires c κs = search needs
 
 get32-requires : tie.Need-get32-requires
 get32-requires c κs =
-    let l = law.laid-n (c .before .before .before .args .t .now) (λ j. omega (arith, c .before .before .slice-known .given j)) (c .before .before .before .pre .0) _ (c .before .slots .ensures) in omega arith
+    let l = law.formed-n (c .before .before .before .args .t .now) (λ j. omega (arith, c .before .before .slice-known .given j)) (c .before .before .before .pre .0) _ (c .before .slots .ensures) in omega arith
 
 get32-requires-2 : tie.Need-get32-requires-2
 get32-requires-2 c κs =
-    let l = law.laid-n (c .before .before .before .before .before .args .t .now) (λ j. omega (arith, c .before .before .before .before .slice-known .given j)) (c .before .before .before .before .before .pre .0) _ (c .before .before .before .slots .ensures) in omega arith
+    let l = law.formed-n (c .before .before .before .before .before .args .t .now) (λ j. omega (arith, c .before .before .before .before .slice-known .given j)) (c .before .before .before .before .before .pre .0) _ (c .before .before .before .slots .ensures) in omega arith
 
 advanced-requires : tie.Need-advanced-requires
 advanced-requires c κs = let e = c .before .before .get32 .ensures in (omega arith, omega arith)
 
 put-clock-requires : tie.Need-put-clock-requires
 put-clock-requires c κs =
-    let l = law.laid-n (c .before .before .before .before .before .before .before .before .args .t .now) (λ j. omega (arith, c .before .before .before .before .before .before .before .slice-known .given j)) (c .before .before .before .before .before .before .before .before .pre .0) _ (c .before .before .before .before .before .before .slots .ensures) in omega arith
+    let l = law.formed-n (c .before .before .before .before .before .before .before .before .args .t .now) (λ j. omega (arith, c .before .before .before .before .before .before .before .slice-known .given j)) (c .before .before .before .before .before .before .before .before .pre .0) _ (c .before .before .before .before .before .before .slots .ensures) in omega arith
 
 free-run-out-requires : tie.Need-free-run-out-requires
 free-run-out-requires c κs =
-    let l = law.laid-n (c .before .before .before .before .before .before .before .before .before .before .before .before .args .t .now) (λ j. omega (arith, c .before .before .before .before .before .before .before .before .before .before .before .slice-known .given j)) (c .before .before .before .before .before .before .before .before .before .before .before .before .pre .0) _ (c .before .before .before .before .before .before .before .before .before .before .slots .ensures) in
+    let l = law.formed-n (c .before .before .before .before .before .before .before .before .before .before .before .before .args .t .now) (λ j. omega (arith, c .before .before .before .before .before .before .before .before .before .before .before .slice-known .given j)) (c .before .before .before .before .before .before .before .before .before .before .before .before .pre .0) _ (c .before .before .before .before .before .before .before .before .before .before .slots .ensures) in
     let z = c .before .before .before .before .before .before .before .before .before .before .before .before in
     let d = c .before .before .before .before .before .advanced .result in
     let h : d .place < 2 ^ 32 = omega (arith, c .before .before .before .before .before) in
     let k : d .running < 2 ^ 32 = omega (arith, c .before .before .before .before .before) in (
       c .before .before .before .put-clock .kept .0 ∙ l,
       sweep.clock-running (z .args .t .now) (λ j. omega (arith, c .before .before .before .before .before .before .before .before .before .before .before .slice-known .given j)) (c .before .before .before .before .before .before .before .before .before .before .before .before .pre .0) (clockOf d) h k _ (c .before .before .before .put-clock .ensures),
-      sweep.clock-laid (z .args .t .now) (λ j. omega (arith, c .before .before .before .before .before .before .before .before .before .before .before .slice-known .given j)) (c .before .before .before .before .before .before .before .before .before .before .before .before .pre .0) (clockOf d) h k _ (c .before .before .before .put-clock .ensures),
+      sweep.clock-formed (z .args .t .now) (λ j. omega (arith, c .before .before .before .before .before .before .before .before .before .before .before .slice-known .given j)) (c .before .before .before .before .before .before .before .before .before .before .before .before .pre .0) (clockOf d) h k _ (c .before .before .before .put-clock .ensures),
     )
 
 same-length : tie.Need-same-length

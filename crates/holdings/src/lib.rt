@@ -1,0 +1,72 @@
+// What a table's entries come to: how many an address holds, how many there are, and what is kept back for the listed addresses.
+ghost use mathlib.Core.Path.{_≡_};
+ghost use Prim.Native.Nat.{_+_, _-_, _*_, _^_, _≤_, _<_};
+ghost use lib.ListN.{length};
+ghost use Rattle.model.specs.Lists.{count, any};
+ghost use Rattle.model.specs.Table.{slotAt, lineAt, readLine};
+ghost use Rattle.model.specs.Rules.{heldBy, reserve};
+ghost use Rattle.layout.specs.Shape.{linesTo};
+ghost use Rattle.layout.specs.Held.{heldTo};
+
+// How many entries of the first n slots the address holds, over all ports, pending ones included.
+pub fn held_by(t: &[u8], n: usize, hi: u64, lo: u64) -> usize
+    requires { ⌜ slotAt n ≤ length (now t) ⌝ }
+    ensures { λ r. ⌜ (r ≤ n) × (r ≡ count (heldTo (now (t .entry)) n) (heldBy (hi * 2 ^ 64 + lo))) ⌝ }
+{
+    let mut k: usize = 0;
+    let mut i: usize = 0;
+    while i < n {
+        if record::has_holder(t, 313 + 320 * i, hi, lo) {
+            k += 1;
+        }
+        i += 1;
+    }
+    k
+}
+
+// How many entries there are in the first n slots.
+pub fn held(t: &[u8], n: usize) -> usize
+    requires { ⌜ slotAt n ≤ length (now t) ⌝ }
+    ensures { λ r. ⌜ (r ≤ n) × (r ≡ count (heldTo (now (t .entry)) n) any) ⌝ }
+{
+    let mut k: usize = 0;
+    let mut i: usize = 0;
+    while i < n {
+        if record::in_use(t[313 + 320 * i]) {
+            k += 1;
+        }
+        i += 1;
+    }
+    k
+}
+
+// What line i keeps back: its share less what its address holds, where that is positive.
+fn kept_back(t: &[u8], n: usize, i: usize) -> usize
+    requires { ⌜ (i < 16) × (slotAt n ≤ length (now t)) ⌝ }
+    ensures { λ r. ⌜ (r < 256) × (r ≡ readLine (now (t .entry)) (lineAt i) .share - count (heldTo (now (t .entry)) n) (heldBy (readLine (now (t .entry)) (lineAt i) .address))) ⌝ }
+{
+    let a = 9 + 19 * i;
+    let share = t[a + 17] as usize;
+    if share == 0 {
+        return 0;
+    }
+    let k = held_by(t, n, octets::get64(t, a + 1), octets::get64(t, a + 9));
+    if share <= k {
+        return 0;
+    }
+    share - k
+}
+
+// The reserve, by the first m lines.
+pub fn reserve_of(t: &[u8], n: usize, m: usize) -> usize
+    requires { ⌜ (m ≤ 16) × (slotAt n ≤ length (now t)) ⌝ }
+    ensures { λ r. ⌜ (r ≤ 4096) × (r ≡ reserve (linesTo (now (t .entry)) m) (count (heldTo (now (t .entry)) n))) ⌝ }
+{
+    let mut k: usize = 0;
+    let mut i: usize = 0;
+    while i < m {
+        k += kept_back(t, n, i);
+        i += 1;
+    }
+    k
+}
