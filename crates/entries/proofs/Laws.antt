@@ -4,14 +4,15 @@ use native.Mathlib.Omega.{arith}
 use borrow.Author.Tests.{ne-eqb, le-leb, lt-leb}
 use mathlib.Core.Path.{_≡_, refl, ap, _∙_}
 use mathlib.Core.Logic.{_≢_}
-use mathlib.Core.Bool.{Bool, true, false, not, cond, _&&_, _||_, and-false}
+use mathlib.Core.Bool.{Bool, true, false, not, cond, _&&_, _||_, and-false, true≢false}
 use mathlib.Core.List.{List}
 use lib.ListN.{length, getD}
 use lib.Dec.{eqb, leb}
 use Rattle.model.specs.Lists.{count, any, indexOf}
 use Rattle.model.specs.Numbers.{bigEndian}
 use Rattle.model.specs.Table.{Slot, free, held, slotAt, sizeOf, readEntry, readSlot, readTable, listed}
-use Rattle.model.specs.Rules.{Holding, holding, holdings, heldBy, numbered, Counts, shareOf, limitOf, reserve, full, freshNumber}
+use Rattle.model.specs.Query.{Question}
+use Rattle.model.specs.Rules.{Holding, holding, holdings, asks, heldBy, numbered, Counts, shareOf, limitOf, reserve, full, freshNumber}
 use Rattle.model.specs.Serve.{has, findEntry}
 use Rattle.model.proofs.ListLaws.{count-at, every-nil, every-next, every-not, index-upTo, index-upTo-none, length-upTo, getD-upTo, upTo-none}
 use Rattle.model.proofs.HoldingLaws.{count-entries}
@@ -37,6 +38,16 @@ module _ (r : ℕ) (p : Holding → Bool) (b : List ℕ) (at : ℕ) where
 
   pub has-out : inUse (getD b at 0) ≡ false → has r p (readSlot b at) ≡ false
   has-out h = has-is ∙ rw h
+
+-- a slot that is not of the address has nothing that it asks
+pub other-holder : (r : ℕ) (b : List ℕ) (at a port : ℕ) (q : Question) → inUse (getD b at 0) && heldBy a (holding r (readEntry b at)) ≡ false
+    → has r (asks a port q) (readSlot b at) ≡ false
+other-holder r b at a port q h = has-is r (asks a port q) b at ∙ go (inUse (getD b at 0)) (eqb (readEntry b at .address) a) _ _ _ _ h
+  where
+    go : (u v w x y z : Bool) → u && v ≡ false → u && (v && w && x && y && z) ≡ false
+    go true true w x y z e = absurd (true≢false e)
+    go true false w x y z e = refl
+    go false v w x y z e = refl
 
 -- an established entry
 pub six-in : (b : List ℕ) (at : ℕ) → getD b at 0 ≡ 6 → inUse (getD b at 0) ≡ true

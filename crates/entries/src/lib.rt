@@ -114,7 +114,7 @@ fn slot_asks(t: &[u8], i: usize, s: Sender, name: &[u8], qtype: u16, qclass: u16
     ensures { λ r. ⌜ r ≡ wanted (now (t .entry)) (asks (senderOf s .address) (s .port) (asked (now (name .entry)) qtype qclass)) i ⌝ }
 {
     let a = 313 + 320 * i;
-    if record::in_use(t[a]) {
+    if record::has_holder(t, a, s.high, s.low) {
         return entry_asks(t, a, s, name, qtype, qclass);
     }
     false

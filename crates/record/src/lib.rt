@@ -25,20 +25,11 @@ pub fn in_use(kind: u8) -> bool
     kind == 6
 }
 
-fn wide(b: u8) -> u64
-    ensures { λ r. ⌜ r ≡ b ⌝ }
-{
-    b as u64
-}
-
-// The 16 bytes at a are the address of these halves. The last byte first, then the low half: most addresses differ there.
+// The 16 bytes at a are the address of these halves. The low half first: most addresses differ there.
 pub fn has_address(t: &[u8], a: usize, hi: u64, lo: u64) -> bool
     requires { ⌜ a + 16 ≤ length (now t) ⌝ }
     ensures { λ r. ⌜ r ≡ eqb (bigEndian (now (t .entry)) a 16) (hi * 2 ^ 64 + lo) ⌝ }
 {
-    if wide(t[a + 15]) != lo % 256 {
-        return false;
-    }
     if octets::get64(t, a + 8) == lo {
         return octets::get64(t, a) == hi;
     }
@@ -199,6 +190,12 @@ pub fn valid_entry(t: &[u8], a: usize, running: u32) -> bool
     }
     let len = t[a + 39] as usize;
     lower_name(t, a + 40, len)
+}
+
+fn wide(b: u8) -> u64
+    ensures { λ r. ⌜ r ≡ b ⌝ }
+{
+    b as u64
 }
 
 // The slot at a has an entry of the number. The last byte first; the kind, which most slots share, last.
