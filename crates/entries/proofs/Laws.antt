@@ -39,15 +39,14 @@ module _ (r : ℕ) (p : Holding → Bool) (b : List ℕ) (at : ℕ) where
   pub has-out : inUse (getD b at 0) ≡ false → has r p (readSlot b at) ≡ false
   has-out h = has-is ∙ rw h
 
--- a slot that is not of the address has nothing that it asks
-pub other-holder : (r : ℕ) (b : List ℕ) (at a port : ℕ) (q : Question) → inUse (getD b at 0) && heldBy a (holding r (readEntry b at)) ≡ false
-    → has r (asks a port q) (readSlot b at) ≡ false
-other-holder r b at a port q h = has-is r (asks a port q) b at ∙ go (inUse (getD b at 0)) (eqb (readEntry b at .address) a) _ _ _ _ h
+-- a slot that fails a part of the test fails the test
+pub fails-part : (r : ℕ) (p q : Holding → Bool) (b : List ℕ) (at : ℕ) → ((h : Holding) → q h ≡ false → p h ≡ false) → inUse (getD b at 0) && q (holding r (readEntry b at)) ≡ false
+    → has r p (readSlot b at) ≡ false
+fails-part r p q b at f e = has-is r p b at ∙ go (inUse (getD b at 0)) (q (holding r (readEntry b at))) (p (holding r (readEntry b at))) (f (holding r (readEntry b at))) e
   where
-    go : (u v w x y z : Bool) → u && v ≡ false → u && (v && w && x && y && z) ≡ false
-    go true true w x y z e = absurd (true≢false e)
-    go true false w x y z e = refl
-    go false v w x y z e = refl
+    go : (u v w : Bool) → (v ≡ false → w ≡ false) → u && v ≡ false → u && w ≡ false
+    go true v w f e = f e
+    go false v w f e = refl
 
 -- an established entry
 pub six-in : (b : List ℕ) (at : ℕ) → getD b at 0 ≡ 6 → inUse (getD b at 0) ≡ true

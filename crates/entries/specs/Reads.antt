@@ -26,10 +26,6 @@ addressOf high low = high * 2 ^ 64 + low
 abbrev pub senderOf : Sender → serve.Sender
 senderOf s = record { address = addressOf (s .high) (s .low); port = s .port }
 
--- a question of a name, a type and a class
-abbrev pub asked : List ℕ → ℕ → ℕ → query.Question
-asked name qtype qclass = record { name = name; qtype = qtype; qclass = qclass }
-
 -- of an option, what a finder goes by: its number and its lease
 abbrev pub sent : ℕ → ℕ → query.LlqOption
 sent number lease = record { version = 1; opcode = 1; error = 0; number = number; lease = lease }

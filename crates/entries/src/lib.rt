@@ -1,4 +1,6 @@
 // What is read of a table's slots, where they lie. A slot is found by its first index, as the model finds it.
+use wire::LlqNumber;
+use wire::Question;
 ghost use mathlib.Core.Path.{_≡_};
 ghost use mathlib.Core.Bool.{_||_};
 ghost use Prim.Native.Nat.{_+_, _≤_};
@@ -8,7 +10,8 @@ ghost use Rattle.model.specs.Lists.{count, indexOf};
 ghost use Rattle.model.specs.Table.{slotAt, sizeOf, slotsIn, readSlot, readTable};
 ghost use Rattle.model.specs.Rules.{holdings, numbered, asks, full, freshNumber};
 ghost use Rattle.model.specs.Serve.{isFree, findEntry, slotRunOut, answers, refreshes};
-ghost use Rattle.entries.specs.Reads.{addressOf, senderOf, asked, stateOf, entryAt, wanted, sent};
+ghost use Rattle.wire.specs.Records.{questionOf};
+ghost use Rattle.entries.specs.Reads.{addressOf, senderOf, stateOf, entryAt, wanted, sent};
 ghost use Rattle.layout.specs.Held.{holdingAt};
 
 // Who sent the datagram: an address in two halves, and a port.
@@ -39,18 +42,6 @@ pub struct Entry {
     pub len: u8,
 }
 
-use wire::LlqNumber;
-
-// The slots of a table of this length.
-pub fn slots(size: usize) -> usize
-    ensures { λ r. ⌜ r ≡ slotsIn size ⌝ }
-{
-    if size < 313 {
-        return 0;
-    }
-    (size - 313) / 320
-}
-
 // What a slot of this kind is.
 fn state_of(k: u8) -> State
     ensures { λ r. ⌜ r ≡ stateOf k ⌝ }
@@ -69,7 +60,7 @@ pub fn entry_at(t: &[u8], i: usize) -> Entry
     requires { ⌜ slotAt (i + 1) ≤ length (now t) ⌝ }
     ensures { λ r. ⌜ r ≡ entryAt (now (t .entry)) (slotAt i) ⌝ }
 {
-    let a = 313 + 320 * i;
+    let a = layout::SLOTS_AT + layout::SLOT * i;
     Entry {
         state: state_of(t[a]),
         high: octets::get64(t, a + 1),
@@ -84,10 +75,18 @@ pub fn entry_at(t: &[u8], i: usize) -> Entry
     }
 }
 
+// The stamp of slot i.
+pub fn stamp_at(t: &[u8], i: usize) -> u32
+    requires { ⌜ slotAt (i + 1) ≤ length (now t) ⌝ }
+    ensures { λ r. ⌜ r ≡ entryAt (now (t .entry)) (slotAt i) .stamp ⌝ }
+{
+    octets::get32(t, layout::SLOTS_AT + layout::SLOT * i + 31)
+}
+
 // The entry at a is of this sender and this question.
-fn entry_asks(t: &[u8], a: usize, s: Sender, name: &[u8], qtype: u16, qclass: u16) -> bool
-    requires { ⌜ a + 320 ≤ length (now t) ⌝ }
-    ensures { λ r. ⌜ r ≡ asks (senderOf s .address) (s .port) (asked (now (name .entry)) qtype qclass) (holdingAt (now (t .entry)) a) ⌝ }
+fn entry_asks(t: &[u8], a: usize, s: Sender, d: &[u8], q: Question) -> bool
+    requires { ⌜ (a + 320 ≤ length (now t)) × (q .start + q .len ≤ length (now d)) ⌝ }
+    ensures { λ r. ⌜ r ≡ asks (senderOf s .address) (s .port) (questionOf (now (d .entry)) q) (holdingAt (now (t .entry)) a) ⌝ }
 {
     if !record::has_address(t, a + 1, s.high, s.low) {
         return false;
@@ -95,27 +94,27 @@ fn entry_asks(t: &[u8], a: usize, s: Sender, name: &[u8], qtype: u16, qclass: u1
     if octets::get16(t, a + 17) != s.port {
         return false;
     }
-    if octets::get16(t, a + 35) != qtype {
+    if octets::get16(t, a + 35) != q.qtype {
         return false;
     }
-    if octets::get16(t, a + 37) != qclass {
+    if octets::get16(t, a + 37) != q.qclass {
         return false;
     }
     let len = t[a + 39] as usize;
-    if len != name.len() {
+    if len != q.len {
         return false;
     }
-    octets::equal(t, a + 40, name, 0, len)
+    names::same_name(t, a + 40, d, q.start, len)
 }
 
 // Slot i has an entry of this sender and this question: a setup finds it.
-fn slot_asks(t: &[u8], i: usize, s: Sender, name: &[u8], qtype: u16, qclass: u16) -> bool
-    requires { ⌜ slotAt (i + 1) ≤ length (now t) ⌝ }
-    ensures { λ r. ⌜ r ≡ wanted (now (t .entry)) (asks (senderOf s .address) (s .port) (asked (now (name .entry)) qtype qclass)) i ⌝ }
+fn slot_asks(t: &[u8], i: usize, s: Sender, d: &[u8], q: Question) -> bool
+    requires { ⌜ (slotAt (i + 1) ≤ length (now t)) × (q .start + q .len ≤ length (now d)) ⌝ }
+    ensures { λ r. ⌜ r ≡ wanted (now (t .entry)) (asks (senderOf s .address) (s .port) (questionOf (now (d .entry)) q)) i ⌝ }
 {
-    let a = 313 + 320 * i;
-    if record::has_holder(t, a, s.high, s.low) {
-        return entry_asks(t, a, s, name, qtype, qclass);
+    let a = layout::SLOTS_AT + layout::SLOT * i;
+    if record::in_use(t[a]) {
+        return entry_asks(t, a, s, d, q);
     }
     false
 }
@@ -125,16 +124,15 @@ fn slot_answers(
     t: &[u8],
     i: usize,
     s: Sender,
-    name: &[u8],
-    qtype: u16,
-    qclass: u16,
+    d: &[u8],
+    q: Question,
     number: u64,
     lease: u32,
 ) -> bool
-    requires { ⌜ slotAt (i + 1) ≤ length (now t) ⌝ }
-    ensures { λ r. ⌜ r ≡ wanted (now (t .entry)) (answers (senderOf s) (asked (now (name .entry)) qtype qclass) (sent number lease)) i ⌝ }
+    requires { ⌜ (slotAt (i + 1) ≤ length (now t)) × (q .start + q .len ≤ length (now d)) ⌝ }
+    ensures { λ r. ⌜ r ≡ wanted (now (t .entry)) (answers (senderOf s) (questionOf (now (d .entry)) q) (sent number lease)) i ⌝ }
 {
-    let a = 313 + 320 * i;
+    let a = layout::SLOTS_AT + layout::SLOT * i;
     if !record::in_use(t[a]) {
         return false;
     }
@@ -144,41 +142,35 @@ fn slot_answers(
     if octets::get32(t, a + 27) != lease {
         return false;
     }
-    entry_asks(t, a, s, name, qtype, qclass)
+    entry_asks(t, a, s, d, q)
 }
 
 // Slot i has an established entry of this number, sender and question: a refresh finds it.
-fn slot_refreshes(
-    t: &[u8],
-    i: usize,
-    s: Sender,
-    name: &[u8],
-    qtype: u16,
-    qclass: u16,
-    number: u64,
-) -> bool
-    requires { ⌜ slotAt (i + 1) ≤ length (now t) ⌝ }
-    ensures { λ r. ⌜ r ≡ wanted (now (t .entry)) (refreshes (senderOf s) (asked (now (name .entry)) qtype qclass) (sent number 0)) i ⌝ }
+fn slot_refreshes(t: &[u8], i: usize, s: Sender, d: &[u8], q: Question, number: u64) -> bool
+    requires { ⌜ (slotAt (i + 1) ≤ length (now t)) × (q .start + q .len ≤ length (now d)) ⌝ }
+    ensures { λ r. ⌜ r ≡ wanted (now (t .entry)) (refreshes (senderOf s) (questionOf (now (d .entry)) q) (sent number 0)) i ⌝ }
 {
-    let a = 313 + 320 * i;
+    let a = layout::SLOTS_AT + layout::SLOT * i;
     if t[a] != 6 {
         return false;
     }
     if octets::get64(t, a + 19) != number {
         return false;
     }
-    entry_asks(t, a, s, name, qtype, qclass)
+    entry_asks(t, a, s, d, q)
 }
 
-// The first slot that a setup finds; n where there is none. So for the three below.
-pub fn find_asked(t: &[u8], n: usize, s: Sender, name: &[u8], qtype: u16, qclass: u16) -> usize
-    requires { ⌜ length (now t) ≡ sizeOf n ⌝ }
-    ensures { λ r. ⌜ r ≡ findEntry (asks (senderOf s .address) (s .port) (asked (now (name .entry)) qtype qclass)) (readTable (now (t .entry))) ⌝ }
+// The first slot that a setup finds; n where there is none. So for the three below. The address, or the number, is looked at first: sender and question are handed on only where it agrees.
+pub fn find_asked(t: &[u8], n: usize, s: Sender, d: &[u8], q: Question) -> usize
+    requires { ⌜ (length (now t) ≡ sizeOf n) × (q .start + q .len ≤ length (now d)) ⌝ }
+    ensures { λ r. ⌜ r ≡ findEntry (asks (senderOf s .address) (s .port) (questionOf (now (d .entry)) q)) (readTable (now (t .entry))) ⌝ }
 {
     let mut i = 0;
     while i < n {
-        if slot_asks(t, i, s, name, qtype, qclass) {
-            return i;
+        if record::has_holder(t, layout::SLOTS_AT + layout::SLOT * i, s.high, s.low) {
+            if slot_asks(t, i, s, d, q) {
+                return i;
+            }
         }
         i += 1;
     }
@@ -189,41 +181,36 @@ pub fn find_answered(
     t: &[u8],
     n: usize,
     s: Sender,
-    name: &[u8],
-    qtype: u16,
-    qclass: u16,
+    d: &[u8],
+    q: Question,
     number: u64,
     lease: u32,
 ) -> usize
-    requires { ⌜ length (now t) ≡ sizeOf n ⌝ }
-    ensures { λ r. ⌜ r ≡ findEntry (answers (senderOf s) (asked (now (name .entry)) qtype qclass) (sent number lease)) (readTable (now (t .entry))) ⌝ }
+    requires { ⌜ (length (now t) ≡ sizeOf n) × (q .start + q .len ≤ length (now d)) ⌝ }
+    ensures { λ r. ⌜ r ≡ findEntry (answers (senderOf s) (questionOf (now (d .entry)) q) (sent number lease)) (readTable (now (t .entry))) ⌝ }
 {
     let mut i = 0;
     while i < n {
-        if slot_answers(t, i, s, name, qtype, qclass, number, lease) {
-            return i;
+        if record::has_number(t, layout::SLOTS_AT + layout::SLOT * i, number) {
+            if slot_answers(t, i, s, d, q, number, lease) {
+                return i;
+            }
         }
         i += 1;
     }
     n
 }
 
-pub fn find_refreshed(
-    t: &[u8],
-    n: usize,
-    s: Sender,
-    name: &[u8],
-    qtype: u16,
-    qclass: u16,
-    number: u64,
-) -> usize
-    requires { ⌜ length (now t) ≡ sizeOf n ⌝ }
-    ensures { λ r. ⌜ r ≡ findEntry (refreshes (senderOf s) (asked (now (name .entry)) qtype qclass) (sent number 0)) (readTable (now (t .entry))) ⌝ }
+pub fn find_refreshed(t: &[u8], n: usize, s: Sender, d: &[u8], q: Question, number: u64) -> usize
+    requires { ⌜ (length (now t) ≡ sizeOf n) × (q .start + q .len ≤ length (now d)) ⌝ }
+    ensures { λ r. ⌜ r ≡ findEntry (refreshes (senderOf s) (questionOf (now (d .entry)) q) (sent number 0)) (readTable (now (t .entry))) ⌝ }
 {
     let mut i = 0;
     while i < n {
-        if slot_refreshes(t, i, s, name, qtype, qclass, number) {
-            return i;
+        if record::has_number(t, layout::SLOTS_AT + layout::SLOT * i, number) {
+            if slot_refreshes(t, i, s, d, q, number) {
+                return i;
+            }
         }
         i += 1;
     }
@@ -237,7 +224,7 @@ pub fn find_free(t: &[u8], n: usize) -> usize
 {
     let mut i = 0;
     while i < n {
-        if !record::in_use(t[313 + 320 * i]) {
+        if !record::in_use(t[layout::SLOTS_AT + layout::SLOT * i]) {
             return i;
         }
         i += 1;
@@ -250,7 +237,7 @@ pub fn run_out(t: &[u8], i: usize, running: u32) -> bool
     requires { ⌜ slotAt (i + 1) ≤ length (now t) ⌝ }
     ensures { λ r. ⌜ r ≡ slotRunOut running (readSlot (now (t .entry)) (slotAt i)) ⌝ }
 {
-    let a = 313 + 320 * i;
+    let a = layout::SLOTS_AT + layout::SLOT * i;
     if record::in_use(t[a]) {
         return clock::run_out(running, octets::get32(t, a + 31), octets::get32(t, a + 27));
     }
@@ -280,7 +267,7 @@ fn number_used(t: &[u8], n: usize, x: u64) -> bool
 {
     let mut i = 0;
     while i < n {
-        if record::has_number(t, 313 + 320 * i, x) {
+        if record::has_number(t, layout::SLOTS_AT + layout::SLOT * i, x) {
             return true;
         }
         i += 1;

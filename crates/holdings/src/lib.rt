@@ -16,7 +16,7 @@ pub fn held_by(t: &[u8], n: usize, hi: u64, lo: u64) -> usize
     let mut k: usize = 0;
     let mut i: usize = 0;
     while i < n {
-        if record::has_holder(t, 313 + 320 * i, hi, lo) {
+        if record::has_holder(t, layout::SLOTS_AT + layout::SLOT * i, hi, lo) {
             k += 1;
         }
         i += 1;
@@ -32,7 +32,7 @@ pub fn held(t: &[u8], n: usize) -> usize
     let mut k: usize = 0;
     let mut i: usize = 0;
     while i < n {
-        if record::in_use(t[313 + 320 * i]) {
+        if record::in_use(t[layout::SLOTS_AT + layout::SLOT * i]) {
             k += 1;
         }
         i += 1;
@@ -45,7 +45,7 @@ fn kept_back(t: &[u8], n: usize, i: usize) -> usize
     requires { ⌜ (i < 16) × (slotAt n ≤ length (now t)) ⌝ }
     ensures { λ r. ⌜ (r < 256) × (r ≡ readLine (now (t .entry)) (lineAt i) .share - count (heldTo (now (t .entry)) n) (heldBy (readLine (now (t .entry)) (lineAt i) .address))) ⌝ }
 {
-    let a = 9 + 19 * i;
+    let a = layout::LINES_AT + layout::LINE * i;
     let share = t[a + 17] as usize;
     if share == 0 {
         return 0;

@@ -5,4 +5,5 @@ pub mod HeldLaws
 pub mod LineLaws
 pub mod LimitLaws
 pub mod AddressLaws
+pub mod LengthLaws
 pub mod SoundLaws

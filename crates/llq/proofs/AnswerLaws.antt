@@ -47,11 +47,6 @@ freed-few b p h =
     let few = count-le (t .slots) (slotRunOut (advance (t .clock) p .running)) in
     omega (arith, few, table-sound b h .slotsMax)
 
--- the length of a table that can be made
-pub length-right : (size : ℕ) → tableLength size ≡ true → size ≡ sizeOf (slotsIn size)
-unfolding tableLength
-length-right size h = eqb-true _ _ (and-right (leb 1 (slotsIn size) && leb (slotsIn size) 64) (eqb size (sizeOf (slotsIn size))) h)
-
 -- what making writes is the model's fresh table
 pub fresh-is : (c : MakeCall) (p n m : ℕ) → p ≡ placeOf (c .week) (c .second) → n ≡ m → tableBytes (fresh p (c .roster) n) ≡ tableBytes (freshTable c m)
 unfolding freshTable

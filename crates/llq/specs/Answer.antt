@@ -8,7 +8,8 @@ use Rattle.model.specs.Lists.{upTo}
 use Rattle.model.specs.Query.{qdcount, questionsEnd, matched, question, llqOption}
 use Rattle.model.specs.Table.{Table, tableBytes, readTable}
 use Rattle.model.specs.Serve.{Sender, Outcome, serveOption}
-use Rattle.wire.specs.Records.{optionOf}
+use Rattle.wire.specs.Records.{questionOf, optionOf}
+use Rattle.wire.specs.declared.Question.{Question}
 use Rattle.wire.specs.declared.LlqOption.{LlqOption}
 use Rattle.llq.specs.declared.Served.{Served}
 use Rattle.model.specs.Reply.{headerBytes, questionBytes, optBytes, replyBytes, replyLength, mismatch}
@@ -24,6 +25,12 @@ pub record Measures (d : List ℕ) (n e : ℕ) : Type 0 where
 -- whether the count and length test passes
 abbrev pub Matches : List ℕ → Bool → Type 0
 Matches d m = m ≡ matched d
+
+-- the first n of an array are the query's questions, each with its name in the datagram
+abbrev pub QuestionsOf : List ℕ → ℕ → List Question → Type 0
+QuestionsOf d n all =
+    (i : ℕ) (e : Question) → i < n
+    → (questionOf d (getD all i e) ≡ question d i) × (getD all i e .start + getD all i e .len ≤ length d) × (getD all i e .len ≤ 255)
 
 -- the first n of an array are the query's options; an element is read by getD, whatever its default
 abbrev pub OptionsOf : List ℕ → ℕ → List LlqOption → Type 0

@@ -1,6 +1,6 @@
 // Document 01's three calls, for a host in C: making, ticking, serving. Every refusal is decided before the first byte is written.
 use entries::Sender;
-use query::Judged;
+use query::Query;
 use wire::LlqNumber;
 use wire::LlqOption;
 use wire::MessageNumber;
@@ -12,17 +12,17 @@ ghost use lib.ListN.{length};
 ghost use Rattle.model.specs.Lists.{flat, upTo};
 ghost use Rattle.model.specs.Numbers.{splice};
 ghost use Rattle.model.specs.Clock.{cycle, placeOf};
-ghost use Rattle.model.specs.Query.{messageNumber, flagRD, goodQuestions};
+ghost use Rattle.model.specs.Query.{messageNumber, flagRD};
 ghost use Rattle.model.specs.Table.{readTable, slotsIn};
 ghost use Rattle.model.specs.Serve.{serveOption};
 ghost use Rattle.model.specs.Reply.{optionBytes, replyBytes, replyLength};
 ghost use Rattle.model.specs.Calls.{tableLength, tableAfter, outcomes};
 ghost use Rattle.model.specs.Meets.{MakeMeets, TickMeets, ServeMeets};
 ghost use Rattle.wire.specs.Records.{questionOf, optionOf};
-ghost use Rattle.query.specs.Whole.{Judges};
+ghost use Rattle.query.specs.Whole.{Holds};
 ghost use Rattle.entries.specs.Reads.{addressOf, senderOf};
 ghost use Rattle.table.specs.Written.{WellFormed, Written};
-ghost use Rattle.llq.specs.Answer.{Measures, Matches, OptionsOf, tableFrom, outcomeFrom, frontBytes, Answers, refusedBy};
+ghost use Rattle.llq.specs.Answer.{Measures, Matches, QuestionsOf, OptionsOf, tableFrom, outcomeFrom, frontBytes, Answers, refusedBy};
 
 // A datagram's answer: the refusal's number and 0, or 0 and the reply's length.
 #[repr(C)]
@@ -40,26 +40,12 @@ pub struct Ticked {
 
 // MAKING
 
-// The length is that of a table of 1 to 64 slots.
-fn table_length(size: usize, n: usize) -> bool
-    requires { ⌜ n ≡ slotsIn size ⌝ }
-    ensures { λ r. ⌜ r ≡ tableLength size ⌝ }
-{
-    if n < 1 {
-        return false;
-    }
-    if n > 64 {
-        return false;
-    }
-    size == 313 + 320 * n
-}
-
 #[no_mangle]
 pub extern "C" fn llq_make(week: u32, second: u32, t: &mut [u8], roster: &[u8]) -> u32
     ensures { λ r. ⌜ MakeMeets (record { week = week; second = second; roster = now (roster .entry) }) (now (t .entry)) (now (t .exit)) r ⌝ }
 {
-    let n = entries::slots(t.len());
-    if !table_length(t.len(), n) {
+    let n = layout::slots(t.len());
+    if !layout::table_length(t.len(), n) {
         return 1;
     }
     if !clock::valid(week, second) {
@@ -124,13 +110,14 @@ fn serve_one(
     at: usize,
     s: Sender,
     r: u64,
+    d: &[u8],
     q: Question,
     o: LlqOption,
 )
-    requires { ⌜ WellFormed (now t) × (q .len ≤ 255) × (at + 22 ≤ length (now reply)) ⌝ }
-    ensures { λ _. ⌜ Written (now (t .exit)) (serveOption (senderOf s) r (questionOf q) (optionOf o) (readTable (now (t .entry))) .table) × (now (reply .exit) ≡ splice at 22 (optionBytes (serveOption (senderOf s) r (questionOf q) (optionOf o) (readTable (now (t .entry))) .outcome)) (now (reply .entry))) ⌝ }
+    requires { ⌜ WellFormed (now t) × (q .start + q .len ≤ length (now d)) × (q .len ≤ 255) × (at + 22 ≤ length (now reply)) ⌝ }
+    ensures { λ _. ⌜ Written (now (t .exit)) (serveOption (senderOf s) r (questionOf (now (d .entry)) q) (optionOf o) (readTable (now (t .entry))) .table) × (now (reply .exit) ≡ splice at 22 (optionBytes (serveOption (senderOf s) r (questionOf (now (d .entry)) q) (optionOf o) (readTable (now (t .entry))) .outcome)) (now (reply .entry))) ⌝ }
 {
-    let x = options::serve_option(t, s, r, q, o);
+    let x = options::serve_option(t, s, r, d, q, o);
     let y = x.outcome;
     let number = options::number_of(x);
     let error = options::error_of(y);
@@ -147,16 +134,16 @@ fn serve_each(
     r: u64,
     n: usize,
     end: usize,
+    questions: [Question; 8],
     options: [LlqOption; 8],
 )
-    requires { ⌜ WellFormed (now t) × (n ≤ 8) × (goodQuestions (now d) n ≡ true) × OptionsOf (now d) n options × (end + 11 + 22 * n ≤ length (now reply)) ⌝ }
+    requires { ⌜ WellFormed (now t) × (n ≤ 8) × QuestionsOf (now d) n questions × OptionsOf (now d) n options × (end + 11 + 22 * n ≤ length (now reply)) ⌝ }
     ensures { λ _. ⌜ Written (now (t .exit)) (tableFrom (senderOf s) r (now (d .entry)) (readTable (now (t .entry))) n) × (now (reply .exit) ≡ splice (end + 11) (22 * n) (flat optionBytes (upTo n (outcomeFrom (senderOf s) r (now (d .entry)) (readTable (now (t .entry)))))) (now (reply .entry))) ⌝ }
 {
-    let questions = query::read_questions(d, n);
     let at = end + 11;
     let mut i: usize = 0;
     while i < n {
-        serve_one(t, reply, at + 22 * i, s, r, questions[i], options[i]);
+        serve_one(t, reply, at + 22 * i, s, r, d, questions[i], options[i]);
         i += 1;
     }
 }
@@ -180,19 +167,20 @@ fn put_front(
 }
 
 // As many options as questions: each is served. Otherwise none is, and the reply has one: opcode 1, error 3, number 0, lease 0.
-fn answer(t: &mut [u8], reply: &mut [u8], d: &[u8], s: Sender, r: u64, j: Judged)
-    requires { ⌜ WellFormed (now t) × Judges (now d) j × (j .refused ≡ 0) × (replyLength (now d) ≤ length (now reply)) ⌝ }
+fn answer(t: &mut [u8], reply: &mut [u8], d: &[u8], s: Sender, r: u64, q: Query)
+    requires { ⌜ WellFormed (now t) × Holds (now d) q × (replyLength (now d) ≤ length (now reply)) ⌝ }
     ensures { λ _. ⌜ Answers (senderOf s) r (now (d .entry)) (now (t .entry)) (now (t .exit)) (now (reply .entry)) (now (reply .exit)) ⌝ }
 {
-    let number = j.number;
-    let options = j.options;
-    let count = j.count;
-    let end = j.end;
-    if j.matched {
-        put_front(reply, d, number, j.desired, count, end, count as u16);
-        serve_each(t, reply, d, s, r, count, end, options);
+    let number = q.number;
+    let questions = q.questions;
+    let options = q.options;
+    let count = q.count;
+    let end = q.end;
+    if q.matched {
+        put_front(reply, d, number, q.desired, count, end, count as u16);
+        serve_each(t, reply, d, s, r, count, end, questions, options);
     } else {
-        put_front(reply, d, number, j.desired, count, end, 1);
+        put_front(reply, d, number, q.desired, count, end, 1);
         wire::write::put_option(reply, end + 11, 1, 3, LlqNumber(0), 0);
     }
 }
@@ -217,12 +205,13 @@ pub extern "C" fn llq_serve(
     if !clock::valid(week, second) {
         return refuse(2);
     }
-    let j = query::judge(datagram);
-    let refused = j.refused;
+    let p = query::parse(datagram);
+    let refused = p.refused;
     if refused != 0 {
         return refuse(refused);
     }
-    let len = reply_length(datagram, j.count, j.end, j.matched);
+    let q = p.query;
+    let len = reply_length(datagram, q.count, q.end, q.matched);
     if len > reply.len() {
         return refuse(8);
     }
@@ -231,7 +220,7 @@ pub extern "C" fn llq_serve(
     }
     let s = Sender { high, low, port };
     table::move_on(t, clock::place(week, second));
-    answer(t, reply, datagram, s, random, j);
+    answer(t, reply, datagram, s, random, q);
     Served {
         number: 0,
         length: len as u32,

@@ -3,14 +3,16 @@ use Prim.Native.Nat.{ℕ, zero, suc, _+_, _-_, _*_, _/_, _%_, _≤_, _<_}
 use native.Mathlib.Nat.{add-zero}
 use native.Mathlib.Omega.{arith}
 use mathlib.Core.Path.{_≡_, refl, sym, ap, _∙_}
-use mathlib.Core.Bool.{Bool, true, false, _&&_}
+use mathlib.Core.Bool.{Bool, true, false, _&&_, and-true}
 use mathlib.Core.Logic.{_⊎_, inl, inr, ⊎-elim}
 use mathlib.Core.List.{List, [], _∷_, _++_}
 use lib.ListN.{length, getD, set, replicate, length-set, length-replicate, replicate-append-replicate}
+use lib.Dec.{eqb}
+use lib.Seq.{drop-cons}
 use Rattle.model.specs.Lists.{same}
 use Rattle.model.specs.Numbers.{bigEndian, bytesOf, Bytes, part, splice}
 use Rattle.model.proofs.NumberLaws.{put-step, splice-none, bytes-big, big-ext, getD-part, length-part, splice-next}
-use Rattle.model.proofs.ListLaws.{same-refl, same-true, same-append, part-add, test}
+use Rattle.model.proofs.ListLaws.{same-refl, same-true, same-append, part-add, test, eqb-sym}
 
 -- a number of two, four or eight bytes as one chain
 pub chain2 : (s : List ℕ) (at : ℕ) → getD s at 0 * 256 + getD s (at + 1) 0 ≡ bigEndian s at 2
@@ -85,12 +87,18 @@ clear-step at i s h =
     splice-next at i 0 (noughts i) s (length-zeros i) h
     ∙ ap (λ (x : List ℕ). splice at (i + 1) x s) (replicate-append-replicate i 1 0)
 
--- zeros from index at
-module _ (s : List ℕ) (at n : ℕ) where
+-- the n bytes from index at are zeros
+abbrev pub zeroBytes : List ℕ → ℕ → ℕ → Bool
+zeroBytes s at n = same (noughts n) (part at n s)
+
+module _ (s : List ℕ) where
   -- n zeros are j and then k
-  pub zero-both : (j k : ℕ) → j + k ≡ n → at + j ≤ length s
-      → same (noughts j) (part at j s) && same (noughts k) (part (at + j) k s) ≡ same (noughts n) (part at n s)
-  zero-both j k e h =
-      let f : length (noughts j) ≡ length (part at j s) = length-zeros j ∙ sym (length-part at j s h) in
+  pub zero-both : (at n j k : ℕ) → j + k ≡ n → at + n ≤ length s → zeroBytes s at j && zeroBytes s (at + j) k ≡ zeroBytes s at n
+  zero-both at n j k e h =
+      let f : length (noughts j) ≡ length (part at j s) = length-zeros j ∙ sym (length-part at j s (omega arith)) in
       sym (same-append (noughts j) (noughts k) (part at j s) (part (at + j) k s) f)
       ∙ rw (replicate-append-replicate {A = ℕ} j k 0, ← part-add at j k s, e)
+
+  pub zero-one : (at : ℕ) → at < length s → eqb (getD s at 0) 0 ≡ zeroBytes s at 1
+  unfolding same part
+  zero-one at h = rw (drop-cons s at 0 h) (eqb-sym (getD s at 0) 0 ∙ sym (and-true (eqb 0 (getD s at 0))))

@@ -3,32 +3,33 @@ use Prim.Native.Nat.{ℕ, zero, suc, _+_, _-_, _*_, _^_, _≤_, _<_}
 use native.Mathlib.Nat.{lt-of-lt-of-le, mul-le-mul-right}
 use native.Mathlib.Omega.{arith}
 use mathlib.Core.Path.{_≡_, refl, sym, ap, _∙_, subst}
-use mathlib.Core.Bool.{Bool, true, false, cond, true≢false}
+use mathlib.Core.Bool.{Bool, true, false, cond, _&&_, true≢false}
 use mathlib.Core.Logic.{_⊎_, inl, inr, _≢_}
-use borrow.Author.Tests.{eq-eqb, ne-eqb}
+use borrow.Author.Tests.{eq-eqb, ne-eqb, eqb-true}
 use mathlib.Core.List.{List, [], _∷_}
 use lib.ListN.{length, getD, set, take, drop}
 use lib.Seq.{set-out}
+use lib.Dec.{eqb}
 use Rattle.model.specs.Lists.{count, indexOf}
 use Rattle.model.specs.Numbers.{Bytes, bigEndian, bytesOf, splice, encode}
 use Rattle.model.specs.Clock.{ageAt}
 use Rattle.model.specs.Query as query
 use Rattle.model.specs.Table as table
 use Rattle.model.specs.Table.{Slot, free, held, Table, slotAt, slotsIn, sizeOf, readTable, readSlot, readEntry, slotBytes}
-use Rattle.model.specs.Rules.{Holding, holdings, asks, full, grantedLease, freshNumber}
+use Rattle.model.specs.Rules.{Holding, holding, holdings, asks, full, grantedLease, freshNumber}
 use Rattle.model.specs.Sound.{FitsEntry}
 use Rattle.model.specs.Serve as serve
 use Rattle.model.specs.Serve.{has, isFree, findEntry, slotOf, withSlot, newEntry, granted, challenge, onSetup, serveSetup, answers, establish, onResponse, serveResponse, refreshes, renew, onRefresh, serveRefresh, ended, serveKind, serveOption, kindOfOption}
 use Rattle.model.proofs.NumberLaws.{big-lt}
-use Rattle.model.proofs.ListLaws.{index-le, index-hit, getD-past}
+use Rattle.model.proofs.ListLaws.{index-le, index-hit, getD-past, and-left, and-right}
 use Rattle.model.proofs.Meaning.{fits-entry}
 use Rattle.layout.specs.Shape.{inUse}
 use Rattle.layout.proofs.ReadLaws.{running-read, slot-read, read-held}
 use Rattle.entries.specs.declared.Sender.{Sender}
 use Rattle.entries.specs.declared.Entry.{Entry}
 use Rattle.entries.specs.declared.State.the-variants.{Pending}
-use Rattle.entries.specs.Reads.{addressOf, senderOf, asked, entryAt}
-use Rattle.entries.proofs.Laws.{slots-count, has-out}
+use Rattle.entries.specs.Reads.{addressOf, senderOf, entryAt}
+use Rattle.entries.proofs.Laws.{slots-count, has-in, has-out}
 use Rattle.wire.specs.declared.LlqNumber.{LlqNumber}
 use Rattle.wire.specs.declared.LlqOption.{LlqOption}
 use Rattle.wire.specs.Records.{optionOf}
@@ -72,6 +73,17 @@ module _ (b : List ℕ) (bytes : Bytes b) (formed : WellFormed b) (n : ℕ) (siz
         let t : q (slotOf (readTable b) i) ≡ true = rw (← e) at (index-hit q (readTable b .slots) free k) in
         read-held b (slotAt i) (used (inUse (getD b (slotAt i) 0)) refl (ap q (sym (at-slot i l)) ∙ t))
 
+    -- the entry that was found passes the test
+    pub found-passes : i < n → p (holding (bigEndian b 5 4) (readEntry b (slotAt i))) ≡ true
+    unfolding findEntry
+    found-passes l =
+        let q = has (readTable b .clock .running) p in
+        let k : indexOf q (readTable b .slots) < length (readTable b .slots) = rw (slots-count b n size, ← e) l in
+        let t : q (slotOf (readTable b) i) ≡ true = rw (← e) at (index-hit q (readTable b .slots) free k) in
+        let u : q (readSlot b (slotAt i)) ≡ true = ap q (sym (at-slot i l)) ∙ t in
+        let v : inUse (getD b (slotAt i) 0) ≡ true = used (inUse (getD b (slotAt i) 0)) refl u in
+        rw (running-read b) at (sym (has-in (readTable b .clock .running) p b (slotAt i) v) ∙ u)
+
     pub found-slot : i < n → slotOf (readTable b) (findEntry p (readTable b)) ≡ held (readEntry b (slotAt i))
     found-slot l = ap (slotOf (readTable b)) (sym e) ∙ at-slot i l ∙ found-held l
 
@@ -80,10 +92,7 @@ module _ (b : List ℕ) (bytes : Bytes b) (formed : WellFormed b) (n : ℕ) (siz
 
   -- GRANTED
 
-  module _ (s : Sender) (r : ℕ) (name : List ℕ) (qtype qclass : ℕ) (o : LlqOption) where
-    abbrev q : query.Question
-    q = asked name qtype qclass
-
+  module _ (s : Sender) (r : ℕ) (q : query.Question) (o : LlqOption) where
     abbrev new : table.Entry
     new = newEntry (senderOf s) r q (optionOf o) (readTable b)
 
@@ -118,19 +127,19 @@ module _ (b : List ℕ) (bytes : Bytes b) (formed : WellFormed b) (n : ℕ) (siz
               number = record { 0 = number };
               lease = lease;
               stamp = stamp;
-              qtype = qtype;
-              qclass = qclass;
+              qtype = q .qtype;
+              qclass = q .qclass;
               len = len;
             }
 
-        new-is : storedAs false made name ≡ new
+        new-is : storedAs false made (q .name) ≡ new
         new-is = rw (number-is, ls, ss ∙ sym (running-read b))
 
-        pub grant-written : i < n → FitsEntry (storedAs false made name) → (y : List ℕ) → y ≡ splice (slotAt i) 320 (entryBytes made name) b
+        pub grant-written : i < n → FitsEntry (storedAs false made (q .name)) → (y : List ℕ) → y ≡ splice (slotAt i) 320 (entryBytes made (q .name)) b
             → (x : ServedOption) → x ≡ servedWith o (out.Challenge (record { 0 = number }) lease) → ServedAs grants y x
         grant-written l f y w x e =
             let v : y ≡ splice (slotAt i) 320 (slotBytes (held new)) b =
-            w ∙ ap (λ (z : List ℕ). splice (slotAt i) 320 z b) (pending-bytes made name refl ∙ ap (λ (z : table.Entry). slotBytes (held z)) new-is) in
+            w ∙ ap (λ (z : List ℕ). splice (slotAt i) 320 z b) (pending-bytes made (q .name) refl ∙ ap (λ (z : table.Entry). slotBytes (held z)) new-is) in
             record {
               table =
                   subst (λ (k : ℕ). Written y (withSlot (readTable b) k (held new))) is
@@ -175,13 +184,19 @@ module _ (b : List ℕ) (bytes : Bytes b) (formed : WellFormed b) (n : ℕ) (siz
           served-by (ap (onResponse (optionOf o) (readTable b) (findEntry (answers (senderOf s) q (optionOf o)) (readTable b)))
           (lost-slot (answers (senderOf s) q (optionOf o)) is l)) (record { table = unwritten b formed; outcome = ap outcomeOf g })
 
-      pub response-found : i < n → (e : Entry) → e ≡ entryAt b (slotAt i) → (left : ℕ) → left ≡ e .lease - ageAt (bigEndian b 5 4) (e .stamp) → (y : List ℕ)
-          → y ≡ splice (slotAt i) 1 (bytesOf 1 6) b → (x : ServedOption) → x ≡ servedWith o (out.Established (e .number) left)
+      pub response-found : i < n → (left : ℕ) → left ≡ o .lease - ageAt (bigEndian b 5 4) (entryAt b (slotAt i) .stamp) → (y : List ℕ)
+          → y ≡ splice (slotAt i) 1 (bytesOf 1 6) b → (x : ServedOption) → x ≡ servedWith o (out.Established (o .number) left)
           → ServedAs (serveResponse (senderOf s) q (optionOf o) (readTable b)) y x
       unfolding serveResponse onResponse entryAt readEntry
-      response-found l e h left k y w x g =
+      response-found l left k y w x g =
           let p = answers (senderOf s) q (optionOf o) in
           let d = readEntry b (slotAt i) in
+          let t = found-passes p is l in
+          let a = asks (senderOf s .address) (s .port) q (holding (bigEndian b 5 4) d) in
+          let u = eqb (d .number) (o .number .0) in
+          let v = eqb (d .lease) (o .lease) in
+          let number : d .number ≡ o .number .0 = eqb-true (d .number) (o .number .0) (and-left u a (and-left (u && a) v t)) in
+          let lease : d .lease ≡ o .lease = eqb-true (d .lease) (o .lease) (and-right (u && a) v t) in
           let f = fits-entry b bytes (slotAt i) in
           let v = w ∙ establish-bytes b bytes formed i (inside l) d (found-held p is l) in
           let g′ : FitsEntry (establish d) =
@@ -200,7 +215,7 @@ module _ (b : List ℕ) (bytes : Bytes b) (formed : WellFormed b) (n : ℕ) (siz
           (record {
             table = subst (λ (j : ℕ). Written y (withSlot (readTable b) j (held (establish d)))) is
                 (slot-written b bytes formed i (held (establish d)) (inside l) g′ y v);
-            outcome = ap outcomeOf g ∙ rw (k, h, running-read b);
+            outcome = ap outcomeOf g ∙ rw (k, number, lease, running-read b);
           })
 
     -- REFRESH
@@ -213,9 +228,15 @@ module _ (b : List ℕ) (bytes : Bytes b) (formed : WellFormed b) (n : ℕ) (siz
           served-by (ap (onRefresh (optionOf o) (readTable b) (findEntry (refreshes (senderOf s) q (optionOf o)) (readTable b)))
           (lost-slot (refreshes (senderOf s) q (optionOf o)) is l)) (record { table = unwritten b formed; outcome = ap outcomeOf g })
 
-      module _ (l : i < n) (e : Entry) (h : e ≡ entryAt b (slotAt i)) where
+      module _ (l : i < n) where
         abbrev d : table.Entry
         d = readEntry b (slotAt i)
+
+        number : d .number ≡ o .number .0
+        number =
+            let t = found-passes (refreshes (senderOf s) q (optionOf o)) is l in
+            eqb-true (d .number) (o .number .0)
+            (and-left (eqb (d .number) (o .number .0)) (asks (senderOf s .address) (s .port) q (holding (bigEndian b 5 4) d)) (and-right (d .established) _ t))
 
         refreshed : serveRefresh (senderOf s) q (optionOf o) (readTable b)
             ≡ onRefresh (optionOf o) (readTable b) (findEntry (refreshes (senderOf s) q (optionOf o)) (readTable b)) (held d)
@@ -238,18 +259,18 @@ module _ (b : List ℕ) (bytes : Bytes b) (formed : WellFormed b) (n : ℕ) (siz
         on-renew z j = rw (ne-eqb (o .lease) 0 z)
 
         pub refresh-end : o .lease ≡ 0 → (y : List ℕ) → y ≡ splice (slotAt i) 320 (slotBytes ended) b → (x : ServedOption)
-            → x ≡ servedWith o (out.Ended (e .number)) → ServedAs (serveRefresh (senderOf s) q (optionOf o) (readTable b)) y x
+            → x ≡ servedWith o (out.Ended (o .number)) → ServedAs (serveRefresh (senderOf s) q (optionOf o) (readTable b)) y x
         unfolding entryAt readEntry
         refresh-end z y w x g =
             served-by (refreshed ∙ on-end z _)
             (record {
               table = subst (λ (j : ℕ). Written y (withSlot (readTable b) j ended)) is (slot-written b bytes formed i ended (inside l) tt y w);
-              outcome = ap outcomeOf g ∙ rw h;
+              outcome = ap outcomeOf g ∙ rw number;
             })
 
         pub refresh-renew : o .lease ≢ 0 → (lease running : ℕ) → lease ≡ grantedLease (o .lease) → lease < 2 ^ 32 → running ≡ bigEndian b 5 4 → (y : List ℕ)
             → y ≡ splice (slotAt i + 27) 8 (encode ((4, lease) ∷ (4, running) ∷ [])) b → (x : ServedOption)
-            → x ≡ servedWith o (out.Renewed (e .number) lease) → ServedAs (serveRefresh (senderOf s) q (optionOf o) (readTable b)) y x
+            → x ≡ servedWith o (out.Renewed (o .number) lease) → ServedAs (serveRefresh (senderOf s) q (optionOf o) (readTable b)) y x
         unfolding entryAt readEntry
         refresh-renew z lease running k small r y w x g =
             let p = refreshes (senderOf s) q (optionOf o) in
@@ -275,7 +296,7 @@ module _ (b : List ℕ) (bytes : Bytes b) (formed : WellFormed b) (n : ℕ) (siz
             served-by (refreshed ∙ on-renew z _)
             (record {
               table = subst (λ (j : ℕ). Written y (withSlot (readTable b) j (held (renew (readTable b .clock .running) (o .lease) d)))) is w′;
-              outcome = ap outcomeOf g ∙ rw (h, k);
+              outcome = ap outcomeOf g ∙ rw (number, k);
             })
 
 -- ONE OPTION, BY ITS KIND

@@ -7,12 +7,12 @@ use wire::LlqOption;
 use wire::Question;
 ghost use mathlib.Core.Path.{_≡_};
 ghost use Prim.Native.Nat.{_+_, _-_, _≤_};
-ghost use lib.ListN.{length, take};
+ghost use lib.ListN.{length};
 ghost use Rattle.model.specs.Table.{sizeOf, readTable};
 ghost use Rattle.model.specs.Rules.{grantedLease};
 ghost use Rattle.model.specs.Serve.{kindOfOption, granted, serveSetup, serveResponse, serveRefresh, serveOption};
 ghost use Rattle.wire.specs.Records.{questionOf, optionOf};
-ghost use Rattle.entries.specs.Reads.{senderOf, asked};
+ghost use Rattle.entries.specs.Reads.{senderOf};
 ghost use Rattle.table.specs.Written.{WellFormed};
 ghost use Rattle.options.specs.Outcomes.{kindIn, errorOf, leaseOf, repeatedNumber, outcomeOf, servedWith, ServedAs};
 
@@ -111,13 +111,12 @@ fn grant(
     n: usize,
     s: Sender,
     r: u64,
-    name: &[u8],
-    qtype: u16,
-    qclass: u16,
+    d: &[u8],
+    q: Question,
     o: LlqOption,
 ) -> ServedOption
-    requires { ⌜ WellFormed (now t) × (length (now t) ≡ sizeOf n) × (length (now name) ≤ 255) ⌝ }
-    ensures { λ x. ⌜ ServedAs (granted (senderOf s) r (asked (now (name .entry)) qtype qclass) (optionOf o) (readTable (now (t .entry)))) (now (t .exit)) x ⌝ }
+    requires { ⌜ WellFormed (now t) × (length (now t) ≡ sizeOf n) × (q .start + q .len ≤ length (now d)) × (q .len ≤ 255) ⌝ }
+    ensures { λ x. ⌜ ServedAs (granted (senderOf s) r (questionOf (now (d .entry)) q) (optionOf o) (readTable (now (t .entry)))) (now (t .exit)) x ⌝ }
 {
     let number = entries::fresh_number(t, n, r);
     let lease = granted_lease(o.lease);
@@ -132,12 +131,12 @@ fn grant(
         port: s.port,
         number: LlqNumber(number),
         lease: lease,
-        stamp: octets::get32(t, 5),
-        qtype: qtype,
-        qclass: qclass,
-        len: name.len() as u8,
+        stamp: octets::get32(t, layout::RUNNING_AT),
+        qtype: q.qtype,
+        qclass: q.qclass,
+        len: q.len as u8,
     };
-    table::put_entry(t, j, e, name);
+    table::put_entry(t, j, e, d, q.start);
     served(o, Outcome::Challenge(LlqNumber(number), lease))
 }
 
@@ -146,15 +145,14 @@ fn serve_setup(
     n: usize,
     s: Sender,
     r: u64,
-    name: &[u8],
-    qtype: u16,
-    qclass: u16,
+    d: &[u8],
+    q: Question,
     o: LlqOption,
 ) -> ServedOption
-    requires { ⌜ WellFormed (now t) × (length (now t) ≡ sizeOf n) × (length (now name) ≤ 255) ⌝ }
-    ensures { λ x. ⌜ ServedAs (serveSetup (senderOf s) r (asked (now (name .entry)) qtype qclass) (optionOf o) (readTable (now (t .entry)))) (now (t .exit)) x ⌝ }
+    requires { ⌜ WellFormed (now t) × (length (now t) ≡ sizeOf n) × (q .start + q .len ≤ length (now d)) × (q .len ≤ 255) ⌝ }
+    ensures { λ x. ⌜ ServedAs (serveSetup (senderOf s) r (questionOf (now (d .entry)) q) (optionOf o) (readTable (now (t .entry)))) (now (t .exit)) x ⌝ }
 {
-    let i = entries::find_asked(t, n, s, name, qtype, qclass);
+    let i = entries::find_asked(t, n, s, d, q);
     if i < n {
         let e = entries::entry_at(t, i);
         let number = e.number;
@@ -163,93 +161,77 @@ fn serve_setup(
     if entries::is_full(t, n, s.high, s.low) {
         return served(o, Outcome::Full);
     }
-    grant(t, n, s, r, name, qtype, qclass, o)
+    grant(t, n, s, r, d, q, o)
 }
 
 fn serve_response(
     t: &mut [u8],
     n: usize,
     s: Sender,
-    name: &[u8],
-    qtype: u16,
-    qclass: u16,
+    d: &[u8],
+    q: Question,
     o: LlqOption,
 ) -> ServedOption
-    requires { ⌜ WellFormed (now t) × (length (now t) ≡ sizeOf n) ⌝ }
-    ensures { λ x. ⌜ ServedAs (serveResponse (senderOf s) (asked (now (name .entry)) qtype qclass) (optionOf o) (readTable (now (t .entry)))) (now (t .exit)) x ⌝ }
+    requires { ⌜ WellFormed (now t) × (length (now t) ≡ sizeOf n) × (q .start + q .len ≤ length (now d)) ⌝ }
+    ensures { λ x. ⌜ ServedAs (serveResponse (senderOf s) (questionOf (now (d .entry)) q) (optionOf o) (readTable (now (t .entry)))) (now (t .exit)) x ⌝ }
 {
     let asked = o.number;
-    let i = entries::find_answered(t, n, s, name, qtype, qclass, asked.0, o.lease);
+    let i = entries::find_answered(t, n, s, d, q, asked.0, o.lease);
     if i >= n {
         return served(o, Outcome::NoSuchLlq(LlqNumber(0)));
     }
-    let e = entries::entry_at(t, i);
-    let number = e.number;
-    let left = less(e.lease, clock::age(octets::get32(t, 5), e.stamp));
+    let stamp = entries::stamp_at(t, i);
+    let age = clock::age(octets::get32(t, layout::RUNNING_AT), stamp);
     table::establish_at(t, i);
-    served(o, Outcome::Established(number, left))
+    served(o, Outcome::Established(asked, less(o.lease, age)))
 }
 
 fn serve_refresh(
     t: &mut [u8],
     n: usize,
     s: Sender,
-    name: &[u8],
-    qtype: u16,
-    qclass: u16,
+    d: &[u8],
+    q: Question,
     o: LlqOption,
 ) -> ServedOption
-    requires { ⌜ WellFormed (now t) × (length (now t) ≡ sizeOf n) ⌝ }
-    ensures { λ x. ⌜ ServedAs (serveRefresh (senderOf s) (asked (now (name .entry)) qtype qclass) (optionOf o) (readTable (now (t .entry)))) (now (t .exit)) x ⌝ }
+    requires { ⌜ WellFormed (now t) × (length (now t) ≡ sizeOf n) × (q .start + q .len ≤ length (now d)) ⌝ }
+    ensures { λ x. ⌜ ServedAs (serveRefresh (senderOf s) (questionOf (now (d .entry)) q) (optionOf o) (readTable (now (t .entry)))) (now (t .exit)) x ⌝ }
 {
     let asked = o.number;
-    let i = entries::find_refreshed(t, n, s, name, qtype, qclass, asked.0);
+    let i = entries::find_refreshed(t, n, s, d, q, asked.0);
     if i >= n {
         return served(o, Outcome::NoSuchLlq(asked));
     }
-    let e = entries::entry_at(t, i);
-    let number = e.number;
     if o.lease == 0 {
         table::end_entry(t, i);
-        return served(o, Outcome::Ended(number));
+        return served(o, Outcome::Ended(asked));
     }
     let lease = granted_lease(o.lease);
-    table::renew_at(t, i, lease, octets::get32(t, 5));
-    served(o, Outcome::Renewed(number, lease))
+    table::renew_at(t, i, lease, octets::get32(t, layout::RUNNING_AT));
+    served(o, Outcome::Renewed(asked, lease))
 }
 
-// One option, by its kind, on a question of the name that is the first len bytes of the array.
-fn serve_named(
+// One option, by its kind, on its question in the datagram d, on the table as it stands.
+pub fn serve_option(
     t: &mut [u8],
     s: Sender,
     r: u64,
-    name: [u8; 255],
-    len: usize,
-    qtype: u16,
-    qclass: u16,
+    d: &[u8],
+    q: Question,
     o: LlqOption,
 ) -> ServedOption
-    requires { ⌜ WellFormed (now t) × (len ≤ 255) ⌝ }
-    ensures { λ x. ⌜ ServedAs (serveOption (senderOf s) r (asked (take len name) qtype qclass) (optionOf o) (readTable (now (t .entry)))) (now (t .exit)) x ⌝ }
+    requires { ⌜ WellFormed (now t) × (q .start + q .len ≤ length (now d)) × (q .len ≤ 255) ⌝ }
+    ensures { λ x. ⌜ ServedAs (serveOption (senderOf s) r (questionOf (now (d .entry)) q) (optionOf o) (readTable (now (t .entry)))) (now (t .exit)) x ⌝ }
 {
-    let n = entries::slots(t.len());
+    let n = layout::slots(t.len());
     let kind = kind_of(o);
     match kind {
         Kind::BadVersion => served(o, Outcome::BadVersion),
         Kind::BadFormat => served(o, Outcome::BadFormat),
-        Kind::Setup => serve_setup(t, n, s, r, &name[0..len], qtype, qclass, o),
-        Kind::Response => serve_response(t, n, s, &name[0..len], qtype, qclass, o),
-        Kind::Refresh => serve_refresh(t, n, s, &name[0..len], qtype, qclass, o),
+        Kind::Setup => serve_setup(t, n, s, r, d, q, o),
+        Kind::Response => serve_response(t, n, s, d, q, o),
+        Kind::Refresh => serve_refresh(t, n, s, d, q, o),
     }
-}
-
-// One option on its question, on the table as it stands.
-pub fn serve_option(t: &mut [u8], s: Sender, r: u64, q: Question, o: LlqOption) -> ServedOption
-    requires { ⌜ WellFormed (now t) × (q .len ≤ 255) ⌝ }
-    ensures { λ x. ⌜ ServedAs (serveOption (senderOf s) r (questionOf q) (optionOf o) (readTable (now (t .entry)))) (now (t .exit)) x ⌝ }
-{
-    let name = q.name;
-    serve_named(t, s, r, name, q.len, q.qtype, q.qclass, o)
 }
 
 // What the reply says: document 01's error, number and lease.

@@ -1,11 +1,11 @@
 -- Laws of the options that a loop passes, one after the other. Assumes nothing.
-use Prim.Native.Nat.{ℕ, zero, suc, _+_, _-_, _≤_, _<_}
+use Prim.Native.Nat.{ℕ, suc, _+_, _-_, _≤_, _<_}
 use mathlib.Core.Path.{_≡_, refl, sym, ap, _∙_}
-use mathlib.Core.List.{List, [], _∷_, _++_, map, append-assoc, append-nil}
-use mathlib.Core.Bool.{Bool, true, false, cond, _&&_, _||_, and-true, and-false}
+use mathlib.Core.List.{List, [], _∷_, _++_, map, append-assoc, append-nil, map-append}
+use mathlib.Core.Bool.{Bool, true, false, and-true, and-false}
 use native.Mathlib.Omega.{arith}
-use lib.ListN.{length, getD, set, take, length-append}
-use lib.Dec.{eqb, leb}
+use lib.ListN.{length, set, take, length-append}
+use lib.Dec.{eqb}
 use borrow.Author.Tests.{eq-eqb, ne-eqb, lt-leb}
 use Rattle.model.specs.Lists.{every, keep}
 use Rattle.model.specs.Numbers.{bigEndian}
@@ -13,8 +13,7 @@ use Rattle.model.specs.Query.{EdnsOption, goodOption, optionAt, optionEnd, opti
 use Rattle.model.proofs.ListLaws.{never, every-nil, every-snoc, length-map}
 use Rattle.wire.specs.Records.{padded, optionRecord}
 use Rattle.wire.specs.declared.LlqOption.{LlqOption}
-use Rattle.wire.proofs.Pad.{keep-more, keep-full, map-snoc}
-use Rattle.query.specs.declared.Options.{Options}
+use Rattle.wire.proofs.Pad.{keep-more, keep-full}
 use Rattle.query.specs.Parts.{blankOption, isLlq, isSized, llqFrom, firstEight, OptionsRead}
 
 -- what the loop knows at a place: the options of code 1 that it passed, and that the rest is read from there, with turns enough
@@ -116,7 +115,7 @@ module _ (d : List ℕ) (first at count : ℕ) (sized : Bool) (all : List LlqOpt
       value o = optionRecord d (o .start)
 
       eight-next : firstEight d (p .passed ++ (optionAt d at ∷ [])) ≡ padded 8 blankOption (take 8 (map value (p .passed) ++ (value (optionAt d at) ∷ [])))
-      eight-next = ap (λ (l : List LlqOption). padded 8 blankOption (take 8 l)) (map-snoc value (p .passed) (optionAt d at))
+      eight-next = ap (λ (l : List LlqOption). padded 8 blankOption (take 8 l)) (map-append value (p .passed) (optionAt d at ∷ []))
 
       length-values : length (map value (p .passed)) ≡ count
       length-values = length-map value (p .passed) ∙ sym (p .counted)

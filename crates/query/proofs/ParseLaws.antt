@@ -1,28 +1,28 @@
 -- The way through a query, from what each part was read as. Assumes nothing.
-use Prim.Native.Nat.{ℕ, suc, _+_, _-_, _%_, _≤_, _<_}
-use mathlib.Core.Path.{_≡_, refl, sym, ap, subst, _∙_}
-use mathlib.Core.List.{List, [], _∷_, _++_, map}
-use mathlib.Core.Bool.{Bool, true, false, not, cond, _&&_, _||_}
+use Prim.Native.Nat.{ℕ, suc, _+_, _%_, _≤_, _<_}
+use mathlib.Core.Path.{_≡_, refl, sym, ap, _∙_}
+use mathlib.Core.List.{List, map}
+use mathlib.Core.Bool.{Bool, true, false, _&&_}
 use native.Mathlib.Omega.{arith}
 use lib.ListN.{length, getD, take}
 use lib.Seq.{take-all}
-use lib.Dec.{eqb, leb, ltb}
+use lib.Dec.{eqb, leb}
 use borrow.Author.Tests.{lt-ltb, le-ltb, leb-true, eq-eqb, ne-eqb, eqb-true}
 use Rattle.model.specs.Lists.{every}
 use Rattle.model.specs.Numbers.{bigEndian}
-use Rattle.model.specs.Query.{wrongSize, qdcount, goodHeader, goodQuestion, goodQuestions, questionsEnd, questionStart, question, goodOpt, optData, optionsFill, EdnsOption, llqOptions, llqAt, llqOption, matched}
+use Rattle.model.specs.Query.{wrongSize, qdcount, goodHeader, goodQuestions, questionsEnd, goodOpt, EdnsOption, llqOptions, llqAt, llqOption, matched}
 use Rattle.model.specs.Calls.{refusal}
-use Rattle.model.proofs.ListLaws.{never, and-left, and-right, length-map, getD-map}
-use Rattle.wire.specs.Records.{questionOf, nameFilled, optionOf, padded, optionRecord}
-use Rattle.wire.specs.declared.Question.{Question}
+use Rattle.model.proofs.ListLaws.{and-left, and-right, length-map, getD-map}
+use Rattle.model.proofs.QueryLaws.{header-facts, start-min}
+use Rattle.wire.specs.Records.{optionOf, padded, optionRecord}
 use Rattle.wire.specs.declared.LlqOption.{LlqOption}
 use Rattle.wire.proofs.Pad.{pad-at}
 use Rattle.query.specs.declared.Header.{Header}
-use Rattle.query.specs.declared.Judged.{Judged}
 use Rattle.query.specs.declared.Options.{Options}
-use Rattle.query.specs.Parts.{headerRecord, goodFields, goodStart, blankOption, recordOf, firstQuestions, isSized, llqFrom, OptionsRead}
-use Rattle.query.specs.Whole.{queryRefusal, refusedWith, Judges, Reads}
-use Rattle.query.proofs.HeaderLaws.{fields-good, few}
+use Rattle.query.specs.declared.Questions.{Questions}
+use Rattle.query.specs.Parts.{headerRecord, goodFields, goodStart, blankOption, isSized, llqFrom, QuestionsRead, OptionsRead}
+use Rattle.query.specs.Whole.{queryRefusal, refusedWith, Reads}
+use Rattle.query.proofs.HeaderLaws.{fields-good}
 use Rattle.query.proofs.QuestionLaws as questions
 
 -- an OPT record that starts well has its 11 bytes
@@ -36,15 +36,15 @@ start-within d at e =
     first true b c x y z = refl
     first false b c x y z = z
 
--- a refusal finds nothing
-refused : (d : List ℕ) (k : ℕ) → suc k ≡ queryRefusal d → Judges d (refusedWith (suc k))
-refused d k e = record { refused = e; atMost = omega arith; good = questions.good-none d; found = λ z. absurd (omega arith) }
+-- a refusal holds no query
+refused : (d : List ℕ) (k : ℕ) → suc k ≡ queryRefusal d → Reads d (refusedWith (suc k))
+refused d k e = record { refused = e; holds = λ z. absurd (omega arith) }
 
-pub short : (d : List ℕ) → length d < 12 → Judges d (refusedWith 3)
+pub short : (d : List ℕ) → length d < 12 → Reads d (refusedWith 3)
 unfolding queryRefusal refusal
 short d h = refused d 2 (rw (lt-ltb (length d) 12 h))
 
-pub long : (d : List ℕ) → 12 ≤ length d → 1472 < length d → Judges d (refusedWith 3)
+pub long : (d : List ℕ) → 12 ≤ length d → 1472 < length d → Reads d (refusedWith 3)
 unfolding queryRefusal refusal
 long d l h = refused d 2 (rw (le-ltb (length d) 12 l, lt-ltb 1472 (length d) h))
 
@@ -58,28 +58,38 @@ module _ (d : List ℕ) (lo : 12 ≤ length d) (hi : length d ≤ 1472) (h : Hea
   asked : h .qdcount ≡ qdcount d
   asked = ap (λ (h : Header). h .qdcount) he
 
-  pub bad-header : goodFields h ≡ false → Judges d (refusedWith 4)
+  -- a good header tells of 1 to 8 questions
+  pub asked-few : goodFields h ≡ true → (1 ≤ h .qdcount) × (h .qdcount ≤ 8)
+  asked-few e = let f = header-facts d (header true e) in rw asked (f .some, f .few)
+
+  pub bad-header : goodFields h ≡ false → Reads d (refusedWith 4)
   unfolding queryRefusal refusal
   bad-header e = refused d 3 (rw (size, header false e))
 
-  module _ (hg : goodFields h ≡ true) where
-    pub bad-question : goodQuestions d (h .qdcount) ≡ false → Judges d (refusedWith 5)
-    unfolding queryRefusal refusal
-    bad-question e = refused d 4 (rw (size, header true hg, (rw asked at e)))
+  module _ (hg : goodFields h ≡ true) (q : Questions) (qe : QuestionsRead d (h .qdcount) q) where
+    questions-good : (v : Bool) → q .good ≡ v → goodQuestions d (qdcount d) ≡ v
+    questions-good v e = rw asked at (sym (qe .good) ∙ e)
 
-    module _ (qg : goodQuestions d (h .qdcount) ≡ true) (at : ℕ) (ae : at ≡ questionStart d (h .qdcount)) where
+    pub bad-question : q .good ≡ false → Reads d (refusedWith 5)
+    unfolding queryRefusal refusal
+    bad-question e = refused d 4 (rw (size, header true hg, questions-good false e))
+
+    module _ (qg : q .good ≡ true) where
+      abbrev at : ℕ
+      at = q .end
+
       good : goodQuestions d (qdcount d) ≡ true
-      good = rw asked at qg
+      good = questions-good true qg
 
       ends : at ≡ questionsEnd d
-      ends = rw asked at ae
+      ends = rw asked at (qe .end qg)
 
-      pub bad-opt : goodStart d at ≡ false → Judges d (refusedWith 6)
+      pub bad-opt : goodStart d at ≡ false → Reads d (refusedWith 6)
       unfolding queryRefusal refusal goodOpt
       bad-opt e = refused d 5 (rw (size, header true hg, good, ← ends, e))
 
       module _ (sg : goodStart d at ≡ true) (o : Options) (oe : OptionsRead d (at + 11) o) where
-        pub bad-fill : o .fill ≡ false → Judges d (refusedWith 6)
+        pub bad-fill : o .fill ≡ false → Reads d (refusedWith 6)
         unfolding queryRefusal refusal goodOpt
         bad-fill e = refused d 5 (rw (size, header true hg, good, ← ends, sg, ← (oe .fill), e))
 
@@ -98,7 +108,7 @@ module _ (d : List ℕ) (lo : 12 ≤ length d) (hi : length d ≤ 1472) (h : Hea
           fitted : o .sized ≡ every isSized (llqOptions d)
           fitted = rw options (oe .sized fg)
 
-          pub no-llq : o .count ≡ 0 → Judges d (refusedWith 7)
+          pub no-llq : o .count ≡ 0 → Reads d (refusedWith 7)
           unfolding queryRefusal refusal
           no-llq e = refused d 6 (rw (size, header true hg, good, opt, ← counted, eq-eqb (o .count) 0 e))
 
@@ -110,7 +120,7 @@ module _ (d : List ℕ) (lo : 12 ≤ length d) (hi : length d ≤ 1472) (h : Hea
           at-option : o .count ≡ h .qdcount → o .sized ≡ true → (i : ℕ) (e : LlqOption) → i < h .qdcount → optionOf (getD (o .all) i e) ≡ llqOption d i
           unfolding llqAt
           at-option c s i e l =
-              let f = few h hg in
+              let f = asked-few hg in
               let n : length (llqOptions d) ≡ h .qdcount = sym counted ∙ c in
               let value : EdnsOption → LlqOption = λ x. optionRecord d (x .start) in
               let a : o .all ≡ padded 8 blankOption (take 8 (map value (llqOptions d))) = rw options (oe .all fg s) in
@@ -122,23 +132,27 @@ module _ (d : List ℕ) (lo : 12 ≤ length d) (hi : length d ≤ 1472) (h : Hea
               ap optionOf g
 
           pub taken : (m : Bool) → (o .count ≡ 0 → ⊥) → m ≡ eqb (o .count) (h .qdcount) && o .sized
-              → Judges d (record { refused = 0; number = h .number; desired = h .flags % 2; count = h .qdcount; options = o .all; end = at; matched = m })
+              → Reads d (record { refused = 0; query = record { number = h .number; desired = h .flags % 2; count = h .qdcount; questions = q .all; options = o .all; end = q .end; matched = m } })
           unfolding queryRefusal refusal
           taken m n me =
-              let f = few h hg in
+              let f = asked-few hg in
+              let g = sym (qe .good) ∙ qg in
+              let a = qe .all qg in
               let c : 0 ≡ queryRefusal d = rw (size, header true hg, good, opt, ← counted, ne-eqb (o .count) 0 n) in
               record {
                 refused = c;
-                atMost = f .1;
-                good = qg;
-                found = λ z.
+                holds = λ z.
                     record {
                       number = ap (λ (h : Header). h .number .0) he;
                       desired = ap (λ (h : Header). h .flags % 2) he;
                       count = asked;
                       atLeast = f .0;
+                      atMost = f .1;
+                      question = λ i e l. rw a (questions.holds-question d (h .qdcount) g i e l);
+                      placed = λ i e l. rw a (questions.holds-placed d (h .qdcount) g i e l);
+                      len = λ i e l. rw a (questions.holds-len d (h .qdcount) g i e l);
                       end = ends;
-                      from = rw ae (questions.start-from d (h .qdcount));
+                      from = rw (qe .end qg) (start-min d (h .qdcount));
                       within = start-within d at sg;
                       matched = me ∙ match-is;
                       option = λ y i e l.
@@ -147,35 +161,3 @@ module _ (d : List ℕ) (lo : 12 ≤ length d) (hi : length d ≤ 1472) (h : Hea
                           (and-right (eqb (o .count) (h .qdcount)) (o .sized) w) i e l;
                     };
               }
-
--- a query that was judged, with its questions
-module _ (d : List ℕ) (j : Judged) (je : Judges d j) (all : List Question) (ae : all ≡ firstQuestions d (j .count)) where
-  at-question : (i : ℕ) (e : Question) → i < j .count → getD all i e ≡ recordOf d i
-  at-question i e l = rw ae (questions.array-at d (j .count) i e l)
-
-  good-at : (i : ℕ) → i < j .count → goodQuestion d (questionStart d i) ≡ true
-  good-at i l = questions.good-at d (j .count) i (je .good) l
-
-  pub reads : Reads d (record { refused = j .refused; query = record { number = j .number; desired = j .desired; count = j .count; questions = all; options = j .options; end = j .end; matched = j .matched } })
-  reads =
-      record {
-        refused = je .refused;
-        holds = λ z.
-            let f = je .found z in
-            record {
-              number = f .number;
-              desired = f .desired;
-              count = f .count;
-              atLeast = f .atLeast;
-              atMost = je .atMost;
-              question = λ i e l. ap questionOf (at-question i e l) ∙ questions.record-is d (questionStart d i) (good-at i l);
-              filled = λ i e l. subst nameFilled (sym (at-question i e l)) (questions.record-filled d (questionStart d i) (good-at i l));
-              len = λ i e l.
-                  subst (λ (q : Question). q .len ≤ 255) (sym (at-question i e l)) (questions.record-len d (questionStart d i) (good-at i l));
-              end = f .end;
-              from = f .from;
-              within = f .within;
-              matched = f .matched;
-              option = f .option;
-            };
-      }

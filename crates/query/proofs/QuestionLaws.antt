@@ -1,79 +1,87 @@
--- Laws of the questions that a loop passes, one after the other. Assumes nothing.
-use Prim.Native.Nat.{ℕ, zero, suc, _+_, _-_, _≤_, _<_}
+-- Laws of the questions that a loop reads, one after the other. Assumes nothing.
+use Prim.Native.Nat.{ℕ, _+_, _≤_, _<_}
 use mathlib.Core.Path.{_≡_, refl, sym, ap, _∙_}
-use mathlib.Core.List.{List, [], _∷_, _++_, map}
-use mathlib.Core.Bool.{Bool, true, false, _&&_}
-use mathlib.Core.Logic.{_⊎_, inl, inr, ⊎-elim}
+use mathlib.Core.List.{List}
+use mathlib.Core.Bool.{true, false, _&&_}
+use mathlib.Core.Logic.{⊎-elim}
 use native.Mathlib.Omega.{arith}
 use native.Mathlib.Numerals.{add-one}
-use lib.ListN.{length, getD, set, take, replicate}
-use Rattle.model.specs.Lists.{every, upTo}
-use Rattle.model.specs.Names.{fold}
-use Rattle.model.specs.Numbers.{part}
-use Rattle.model.specs.Query.{nameAt, goodQuestion, questionAt, questionEnd, questionStart, question, goodQuestions}
-use Rattle.model.proofs.NumberLaws.{length-part}
-use Rattle.model.proofs.ListLaws.{test, never, and-both, every-nil, every-next, every-at, upTo-next, upTo-none, length-upTo, getD-upTo, length-map}
-use Rattle.wire.specs.Records.{questionOf, nameFilled, padded, recordAt}
+use lib.ListN.{length, getD, set, replicate}
+use Rattle.model.specs.Lists.{upTo}
+use Rattle.model.specs.Query.{goodQuestion, questionAt, questionEnd, questionStart, question, goodQuestions}
+use Rattle.model.proofs.ListLaws.{test, never, and-both, every-nil, every-next, upTo-next, upTo-none, length-upTo, getD-upTo}
+use Rattle.model.proofs.NameLaws.{question-within}
+use Rattle.model.proofs.QueryLaws.{good-at}
+use Rattle.wire.specs.Records.{questionOf, padded, recordAt}
 use Rattle.wire.specs.declared.Question.{Question}
-use Rattle.wire.proofs.Pad.{pad-more, pad-at, pad-take}
-use Rattle.wire.proofs.Reading.{good-within}
-use Rattle.query.specs.Parts.{blankQuestion, recordOf}
+use Rattle.wire.proofs.Pad.{pad-none, pad-more, pad-at}
+use Rattle.query.specs.Parts.{blankQuestion, recordOf, firstQuestions, QuestionsRead}
 
 module _ (d : List ℕ) where
-  pub good-none : goodQuestions d 0 ≡ true
+  good-none : goodQuestions d 0 ≡ true
   unfolding goodQuestions upTo
   good-none = every-nil (λ i. goodQuestion d (questionStart d i))
 
-  pub good-next : (i : ℕ) → goodQuestions d (i + 1) ≡ goodQuestions d i && goodQuestion d (questionStart d i)
+  good-next : (i : ℕ) → goodQuestions d (i + 1) ≡ goodQuestions d i && goodQuestion d (questionStart d i)
   unfolding goodQuestions
   good-next i = every-next i (λ i. i) (λ i. goodQuestion d (questionStart d i))
 
-  pub good-at : (m i : ℕ) → goodQuestions d m ≡ true → i < m → goodQuestion d (questionStart d i) ≡ true
-  unfolding goodQuestions
-  good-at m i e h =
-      let p = every-at (λ i. goodQuestion d (questionStart d i)) (upTo m (λ i. i)) i 0 e (rw (length-upTo m (λ (i : ℕ). i)) h) in
-      rw (getD-upTo m (λ (i : ℕ). i) i 0 h) at p
+  bad-at : (m i : ℕ) → i < m → goodQuestion d (questionStart d i) ≡ false → goodQuestions d m ≡ false
+  bad-at m i h e = ⊎-elim (λ (t : goodQuestions d m ≡ true). never (good-at d m i t h) e) (λ (t : goodQuestions d m ≡ false). t) (test (goodQuestions d m))
 
-  pub bad-at : (m i : ℕ) → i < m → goodQuestion d (questionStart d i) ≡ false → goodQuestions d m ≡ false
-  bad-at m i h e = ⊎-elim (λ (t : goodQuestions d m ≡ true). never (good-at m i t h) e) (λ (t : goodQuestions d m ≡ false). t) (test (goodQuestions d m))
-
-  pub start-first : questionStart d 0 ≡ 12
+  start-first : questionStart d 0 ≡ 12
   unfolding questionStart
   start-first = refl
 
-  pub start-next : (i : ℕ) → questionStart d (i + 1) ≡ questionEnd d (questionStart d i)
+  start-next : (i : ℕ) → questionStart d (i + 1) ≡ questionEnd d (questionStart d i)
   unfolding questionStart
   start-next i = rw add-one
 
-  -- no question starts in the header
-  pub start-from : (i : ℕ) → 12 ≤ questionStart d i
-  unfolding questionStart
-  start-from zero = omega arith
-  start-from (suc i) = omega (arith, start-from i)
-
   -- question i stored behind the i before it
-  pub array-next : (i : ℕ) → i < 8 → set (padded 8 blankQuestion (upTo i (recordOf d))) i (recordOf d i) ≡ padded 8 blankQuestion (upTo (i + 1) (recordOf d))
+  array-next : (i : ℕ) → i < 8 → set (firstQuestions d i) i (recordOf d i) ≡ firstQuestions d (i + 1)
   array-next i h =
       pad-more 8 blankQuestion (upTo i (recordOf d)) (recordOf d i) i (length-upTo i (recordOf d)) h
       ∙ ap (padded 8 blankQuestion) (sym (upTo-next i (recordOf d)))
 
-  pub array-at : (m i : ℕ) (e : Question) → i < m → getD (padded 8 blankQuestion (upTo m (recordOf d))) i e ≡ recordOf d i
-  array-at m i e h = pad-at 8 blankQuestion (upTo m (recordOf d)) i e (rw (length-upTo m (recordOf d)) h) ∙ getD-upTo m (recordOf d) i e h
+  -- what the loop knows at a place, i questions on
+  pub record Passed (i at : ℕ) (all : List Question) : Type 0 where
+    pub good : goodQuestions d i ≡ true
+    pub start : at ≡ questionStart d i
+    pub stored : all ≡ firstQuestions d i
 
-  -- a good question's record is the model's question, and its name is padded with zeros
-  module _ (at : ℕ) (g : goodQuestion d at ≡ true) where
-    name-length : length (map fold (part at (nameAt d at) d)) ≡ nameAt d at
-    name-length = let w = good-within d at g in length-map fold (part at (nameAt d at) d) ∙ length-part at (nameAt d at) d (omega arith)
+  pub passed-none : (all : List Question) → all ≡ replicate 8 blankQuestion → Passed 0 12 all
+  passed-none all e =
+      record { good = good-none; start = sym start-first; stored = e ∙ sym (rw (upTo-none (recordOf d)) (pad-none 8 blankQuestion)) }
 
-    name-taken : take (nameAt d at) (padded 255 0 (map fold (part at (nameAt d at) d))) ≡ map fold (part at (nameAt d at) d)
-    name-taken = pad-take 255 0 (map fold (part at (nameAt d at) d)) (nameAt d at) name-length
+  module _ (i at : ℕ) (all : List Question) (p : Passed i at all) where
+    -- a good question: it is stored, and the loop goes on at its end
+    pub passed-next : (q : Question) → i < 8 → goodQuestion d at ≡ true → q ≡ recordAt d at → Passed (i + 1) (questionEnd d at) (set all i q)
+    passed-next q l g e =
+        record {
+          good = good-next i ∙ and-both (goodQuestions d i) (goodQuestion d (questionStart d i)) (p .good) (rw (p .start) at g);
+          start = ap (questionEnd d) (p .start) ∙ sym (start-next i);
+          stored = rw (e, p .stored, p .start) (array-next i l);
+        }
 
-    pub record-is : questionOf (recordAt d at) ≡ questionAt d at
+    -- a bad one
+    pub read-bad : (m : ℕ) → i < m → goodQuestion d at ≡ false → QuestionsRead d m (record { all = all; end = 0; good = false })
+    read-bad m l b = record { good = sym (bad-at m i l (rw (p .start) at b)); end = λ z. never z refl; all = λ z. never z refl }
+
+    -- all m are read
+    pub read-end : (m : ℕ) → i ≡ m → QuestionsRead d m (record { all = all; end = at; good = true })
+    read-end m e = record { good = sym (rw e at (p .good)); end = λ z. rw e at (p .start); all = λ z. rw e at (p .stored) }
+
+  -- question i in the array is the model's, and its name is of at most 255 bytes, in the datagram
+  module _ (m : ℕ) (g : goodQuestions d m ≡ true) (i : ℕ) (e : Question) (l : i < m) where
+    array-at : getD (firstQuestions d m) i e ≡ recordOf d i
+    array-at = pad-at 8 blankQuestion (upTo m (recordOf d)) i e (rw (length-upTo m (recordOf d)) l) ∙ getD-upTo m (recordOf d) i e l
+
+    pub holds-question : questionOf d (getD (firstQuestions d m) i e) ≡ question d i
     unfolding questionAt
-    record-is = rw name-taken
+    holds-question = ap (questionOf d) array-at
 
-    pub record-filled : nameFilled (recordAt d at)
-    record-filled = rw (name-taken, name-length)
+    pub holds-placed : getD (firstQuestions d m) i e .start + getD (firstQuestions d m) i e .len ≤ length d
+    holds-placed = let w = question-within d (questionStart d i) (good-at d m i g l) in rw array-at (omega arith)
 
-    pub record-len : recordAt d at .len ≤ 255
-    record-len = good-within d at g .1
+    pub holds-len : getD (firstQuestions d m) i e .len ≤ 255
+    holds-len = rw array-at (question-within d (questionStart d i) (good-at d m i g l) .1)

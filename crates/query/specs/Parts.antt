@@ -1,20 +1,18 @@
 -- What the readers of a query's parts give, in the model's terms. Assumes nothing.
 use Prim.Native.Nat.{ℕ, suc, _+_, _/_, _%_}
 use mathlib.Core.Path.{_≡_}
-use mathlib.Core.Bool.{Bool, true, false, _&&_}
+use mathlib.Core.Bool.{Bool, true, _&&_}
 use mathlib.Core.List.{List, map}
-use lib.ListN.{length, getD, take, replicate}
+use lib.ListN.{length, getD, take}
 use lib.Dec.{eqb, leb}
 use Rattle.model.specs.Lists.{every, keep, upTo}
 use Rattle.model.specs.Numbers.{bigEndian}
 use Rattle.model.specs.Query.{questionStart, goodQuestions, EdnsOption, optionsFill, optionsFrom, optData}
 use Rattle.wire.specs.Records.{padded, recordAt, optionRecord}
-use Rattle.wire.specs.declared.Cursor.{Cursor}
 use Rattle.wire.specs.declared.Question.{Question}
 use Rattle.wire.specs.declared.LlqOption.{LlqOption}
 use Rattle.query.specs.declared.Header.{Header}
-use Rattle.query.specs.declared.End.{End}
-use Rattle.query.specs.declared.End.the-variants as end
+use Rattle.query.specs.declared.Questions.{Questions}
 use Rattle.query.specs.declared.Options.{Options}
 
 -- THE HEADER
@@ -39,20 +37,20 @@ goodFields h =
 -- QUESTIONS
 
 abbrev pub blankQuestion : Question
-blankQuestion = record { name = replicate 255 0; len = 0; qtype = 0; qclass = 0 }
+blankQuestion = record { start = 0; len = 0; qtype = 0; qclass = 0 }
 
 -- question i
 abbrev pub recordOf : List ℕ → ℕ → Question
 recordOf d i = recordAt d (questionStart d i)
 
--- the first m questions are good and end at the cursor, or one is bad
-abbrev pub QuestionsPassed : List ℕ → ℕ → End → Type 0
-QuestionsPassed d m (end.Whole c) = (goodQuestions d m ≡ true) × (c .at ≡ questionStart d m)
-QuestionsPassed d m end.Bad = goodQuestions d m ≡ false
-
 -- the first m questions in an array of eight
 abbrev pub firstQuestions : List ℕ → ℕ → List Question
 firstQuestions d m = padded 8 blankQuestion (upTo m (recordOf d))
+
+pub record QuestionsRead (d : List ℕ) (m : ℕ) (r : Questions) : Type 0 where
+  pub good : r .good ≡ goodQuestions d m
+  pub end : r .good ≡ true → r .end ≡ questionStart d m
+  pub all : r .good ≡ true → r .all ≡ firstQuestions d m
 
 -- THE OPT RECORD
 

@@ -2,10 +2,8 @@
 ghost use mathlib.Core.Path.{_≡_};
 ghost use Prim.Native.Nat.{_+_, _≤_};
 ghost use lib.ListN.{length};
-ghost use mathlib.Core.Bool.{true};
-ghost use Rattle.model.specs.Query.{goodQuestions};
-ghost use Rattle.query.specs.Parts.{headerRecord, goodFields, blankQuestion, blankOption, QuestionsPassed, firstQuestions, OptionsRead, goodStart};
-ghost use Rattle.query.specs.Whole.{refusedWith, Judges, Reads};
+ghost use Rattle.query.specs.Parts.{headerRecord, goodFields, blankQuestion, blankOption, QuestionsRead, OptionsRead, goodStart};
+ghost use Rattle.query.specs.Whole.{refusedWith, Reads};
 use wire::Cursor;
 use wire::LlqNumber;
 use wire::LlqOption;
@@ -24,10 +22,11 @@ pub struct Header {
     pub arcount: u16,
 }
 
-// Where the questions end, or that one of them is bad.
-pub enum End {
-    Whole(Cursor),
-    Bad,
+// The questions: the first eight by value, where they end, and whether all are good. An array beside a verdict: an enum cannot hold it.
+pub struct Questions {
+    pub all: [Question; 8],
+    pub end: usize,
+    pub good: bool,
 }
 
 // The options of code 1: the first eight by value, how many there are, whether each has length 18; and whether the options fill the datagram.
@@ -36,17 +35,6 @@ pub struct Options {
     pub count: usize,
     pub sized: bool,
     pub fill: bool,
-}
-
-// What a query is found to be, but for its questions. Where a number refuses it, there are none.
-pub struct Judged {
-    pub refused: u32,
-    pub number: MessageNumber,
-    pub desired: u8,
-    pub count: usize,
-    pub options: [LlqOption; 8],
-    pub end: usize,
-    pub matched: bool,
 }
 
 // Up to eight questions beside their options. The options are those of the questions where they matched.
@@ -112,7 +100,7 @@ pub fn blank_question() -> Question
     ensures { λ r. ⌜ r ≡ blankQuestion ⌝ }
 {
     Question {
-        name: [0u8; 255],
+        start: 0,
         len: 0,
         qtype: 0,
         qclass: 0,
@@ -131,36 +119,10 @@ pub fn blank_option() -> LlqOption
     }
 }
 
-// Refusal 5: count questions from the header's end, passed without a look at their names' letters.
-pub fn pass_questions(s: &[u8], count: usize) -> End
-    ensures { λ r. ⌜ QuestionsPassed (now (s .entry)) count r ⌝ }
-{
-    let mut c = Cursor { at: 12 };
-    let mut i: usize = 0;
-    while i < count {
-        match c.question(s) {
-            QuestionRead::Found {
-                start: _,
-                len: _,
-                qtype: _,
-                qclass: _,
-                next,
-            } => {
-                c = next;
-                i = i + 1;
-            }
-            QuestionRead::Bad => {
-                return End::Bad;
-            }
-        }
-    }
-    End::Whole(c)
-}
-
-// Those questions by value, once all are known to be good.
-pub fn read_questions(s: &[u8], count: usize) -> [Question; 8]
-    requires { ⌜ (count ≤ 8) × (goodQuestions (now s) count ≡ true) ⌝ }
-    ensures { λ r. ⌜ r ≡ firstQuestions (now (s .entry)) count ⌝ }
+// Refusal 5: count questions from the header's end.
+pub fn read_questions(s: &[u8], count: usize) -> Questions
+    requires { ⌜ count ≤ 8 ⌝ }
+    ensures { λ r. ⌜ QuestionsRead (now (s .entry)) count r ⌝ }
 {
     let none = blank_question();
     let mut all = [none; 8];
@@ -175,16 +137,29 @@ pub fn read_questions(s: &[u8], count: usize) -> [Question; 8]
                 qclass,
                 next,
             } => {
-                all[i] = wire::question_of(s, start, len, qtype, qclass);
+                all[i] = Question {
+                    start,
+                    len,
+                    qtype,
+                    qclass,
+                };
                 c = next;
                 i = i + 1;
             }
             QuestionRead::Bad => {
-                return all;
+                return Questions {
+                    all,
+                    end: 0,
+                    good: false,
+                };
             }
         }
     }
-    all
+    Questions {
+        all,
+        end: c.at,
+        good: true,
+    }
 }
 
 // Refusal 6, but for the options: root, type 41, version 0, and data that ends where the datagram does.
@@ -264,24 +239,28 @@ pub fn read_options(s: &[u8], first: Cursor) -> Options
     }
 }
 
-pub fn refuse(number: u32) -> Judged
+pub fn refuse(number: u32) -> Parsed
     ensures { λ r. ⌜ r ≡ refusedWith number ⌝ }
 {
+    let q = blank_question();
     let o = blank_option();
-    Judged {
+    Parsed {
         refused: number,
-        number: MessageNumber(0),
-        desired: 0,
-        count: 0,
-        options: [o; 8],
-        end: 0,
-        matched: false,
+        query: Query {
+            number: MessageNumber(0),
+            desired: 0,
+            count: 0,
+            questions: [q; 8],
+            options: [o; 8],
+            end: 0,
+            matched: false,
+        },
     }
 }
 
-// Refusals 3 to 7, lowest number first.
-pub fn judge(d: &[u8]) -> Judged
-    ensures { λ r. ⌜ Judges (now (d .entry)) r ⌝ }
+// Refusals 3 to 7, lowest number first, or the query that the datagram is.
+pub fn parse(d: &[u8]) -> Parsed
+    ensures { λ r. ⌜ Reads (now (d .entry)) r ⌝ }
 {
     if d.len() < 12 {
         return refuse(3);
@@ -294,65 +273,38 @@ pub fn judge(d: &[u8]) -> Judged
         return refuse(4);
     }
     let count = h.qdcount as usize;
-    match pass_questions(d, count) {
-        End::Bad => refuse(5),
-        End::Whole(c) => {
-            let end = c.at;
-            if !opt_starts(d, end) {
-                return refuse(6);
-            }
-            let o = read_options(d, Cursor { at: end + 11 });
-            if !o.fill {
-                return refuse(6);
-            }
-            if o.count == 0 {
-                return refuse(7);
-            }
-            let number = h.number;
-            let options = o.all;
-            if o.count == count {
-                Judged {
-                    refused: 0,
-                    number,
-                    desired: h.flags % 2,
-                    count,
-                    options,
-                    end,
-                    matched: o.sized,
-                }
-            } else {
-                Judged {
-                    refused: 0,
-                    number,
-                    desired: h.flags % 2,
-                    count,
-                    options,
-                    end,
-                    matched: false,
-                }
-            }
-        }
+    let q = read_questions(d, count);
+    if !q.good {
+        return refuse(5);
     }
-}
-
-// A datagram's refusal, or the query that it is.
-pub fn parse(d: &[u8]) -> Parsed
-    ensures { λ r. ⌜ Reads (now (d .entry)) r ⌝ }
-{
-    let j = judge(d);
-    let number = j.number;
-    let questions = read_questions(d, j.count);
-    let options = j.options;
+    let end = q.end;
+    if !opt_starts(d, end) {
+        return refuse(6);
+    }
+    let o = read_options(d, Cursor { at: end + 11 });
+    if !o.fill {
+        return refuse(6);
+    }
+    if o.count == 0 {
+        return refuse(7);
+    }
+    let mut matched = o.sized;
+    if o.count != count {
+        matched = false;
+    }
+    let number = h.number;
+    let questions = q.all;
+    let options = o.all;
     Parsed {
-        refused: j.refused,
+        refused: 0,
         query: Query {
             number,
-            desired: j.desired,
-            count: j.count,
+            desired: h.flags % 2,
+            count,
             questions,
             options,
-            end: j.end,
-            matched: j.matched,
+            end,
+            matched,
         },
     }
 }

@@ -17,7 +17,7 @@ pub fn listed_lines(t: &[u8]) -> usize
 {
     let mut i: usize = 0;
     while i < 16 {
-        if t[9 + 19 * i] != 3 {
+        if t[layout::LINES_AT + layout::LINE * i] != 3 {
             return i;
         }
         i += 1;
@@ -31,10 +31,10 @@ pub fn unused_from(t: &[u8], m: usize) -> bool
     ensures { λ r. ⌜ r ≡ unusedFrom (now (t .entry)) m ⌝ }
 {
     let n = 16 - m;
-    let a = 9 + 19 * m;
+    let a = layout::LINES_AT + layout::LINE * m;
     let mut i: usize = 0;
     while i < n {
-        if !record::unused_shape(t, a + 19 * i) {
+        if !record::unused_shape(t, a + layout::LINE * i) {
             return false;
         }
         i += 1;
@@ -49,7 +49,7 @@ pub fn kinds_listed(t: &[u8], m: usize) -> bool
 {
     let mut i: usize = 0;
     while i < m {
-        if t[19 * i] != 3 {
+        if t[layout::LINE * i] != 3 {
             return false;
         }
         i += 1;
@@ -64,7 +64,7 @@ fn lines_valid(t: &[u8], base: usize, m: usize) -> bool
 {
     let mut i: usize = 0;
     while i < m {
-        if !record::valid_line(t, base + 19 * i) {
+        if !record::valid_line(t, base + layout::LINE * i) {
             return false;
         }
         i += 1;
@@ -77,12 +77,12 @@ fn line_apart(t: &[u8], base: usize, i: usize) -> bool
     requires { ⌜ (i < 16) × (base ≤ 9) × (base + 19 * i + 19 ≤ length (now t)) ⌝ }
     ensures { λ r. ⌜ r ≡ every (λ l. not (sameAddress l (readLine (now (t .entry)) (base + 19 * i)))) (linesFrom (now (t .entry)) base i) ⌝ }
 {
-    let a = base + 19 * i;
+    let a = base + layout::LINE * i;
     let hi = octets::get64(t, a + 1);
     let lo = octets::get64(t, a + 9);
     let mut j: usize = 0;
     while j < i {
-        if record::has_address(t, base + 19 * j + 1, hi, lo) {
+        if record::has_address(t, base + layout::LINE * j + 1, hi, lo) {
             return false;
         }
         j += 1;
@@ -119,7 +119,7 @@ fn share_sum(t: &[u8], base: usize, m: usize) -> usize
     let mut s: usize = 0;
     let mut i: usize = 0;
     while i < m {
-        s += wide(t[base + 19 * i + 17]);
+        s += wide(t[base + layout::LINE * i + 17]);
         i += 1;
     }
     s
@@ -146,7 +146,7 @@ pub fn limit_of(t: &[u8], m: usize, hi: u64, lo: u64) -> usize
 {
     let mut i: usize = 0;
     while i < m {
-        let a = 9 + 19 * i;
+        let a = layout::LINES_AT + layout::LINE * i;
         if record::has_address(t, a + 1, hi, lo) {
             return wide(t[a + 18]);
         }
@@ -162,7 +162,7 @@ pub fn share_of(t: &[u8], m: usize, hi: u64, lo: u64) -> usize
 {
     let mut i: usize = 0;
     while i < m {
-        let a = 9 + 19 * i;
+        let a = layout::LINES_AT + layout::LINE * i;
         if record::has_address(t, a + 1, hi, lo) {
             return wide(t[a + 17]);
         }

@@ -1,22 +1,23 @@
--- One slot more in the pass over pairs, and the roster that a making is given. Assumes nothing.
-use Prim.Native.Nat.{ℕ, _+_, _*_, _/_, _<_}
+-- One slot more in each pass over pairs, and the roster that a making is given. Assumes nothing.
+use Prim.Native.Nat.{ℕ, _+_, _*_, _<_}
 use native.Mathlib.Nat.{zero-add}
 use native.Mathlib.Omega.{arith}
-use mathlib.Core.Path.{_≡_, refl, sym, ap, _∙_}
-use mathlib.Core.Bool.{Bool, true, false, not, cond, _&&_}
+use mathlib.Core.Path.{_≡_, refl, ap, _∙_}
+use mathlib.Core.Bool.{Bool, true, false, not, cond, _&&_, and-assoc}
 use mathlib.Core.List.{List}
 use lib.ListN.{length, getD}
 use lib.Dec.{eqb, leb}
 use borrow.Author.Tests.{eqb-true, lt-leb}
-use Rattle.model.specs.Lists.{count, every, noTwo, upTo}
+use Rattle.model.specs.Lists.{count, any, every, noTwo}
 use Rattle.model.specs.Table.{Line, readLine, slotAt}
-use Rattle.model.specs.Rules.{Holding, heldBy, limitOf}
+use Rattle.model.specs.Rules.{Holding, numbered, heldBy, limitOf, reserve}
+use Rattle.model.specs.Sound.{validEntry, sameNumber, sameQuestion, soundHoldings}
 use Rattle.model.specs.Calls.{goodRoster, rosterLines, rosterCount}
 use Rattle.model.proofs.ListLaws.{swap, upTo-ext}
 use Rattle.layout.specs.Shape.{inUse, linesFrom}
-use Rattle.layout.specs.Held.{holdingAt, heldTo, okAt, clash, within}
+use Rattle.layout.specs.Held.{holdingAt, heldTo, okAt, within}
 use Rattle.sound.specs.Fits.{fits, fitted}
-use Rattle.layout.proofs.HeldLaws.{two-next, grows-no}
+use Rattle.layout.proofs.HeldLaws.{two-next, two-yes, two-no, grows-no}
 use Rattle.layout.proofs.LimitLaws.{within-next}
 
 module _ (b : List ℕ) (ls : List Line) where
@@ -30,16 +31,33 @@ module _ (b : List ℕ) (ls : List Line) where
 
   fits-next : (i : ℕ) → fitted b ls (i + 1) ≡ fitted b ls i && okAt b (fits b ls i) i
   fits-next i =
-      let p : Holding → Bool = λ k. every (λ h. not (clash h k)) (heldTo b i) in
+      let p : Holding → Bool = λ k. every (λ h. not (sameQuestion h k)) (heldTo b i) in
       let q : Holding → Bool = λ k. leb (count (heldTo b i) (heldBy (k .address)) + 1) (limitOf ls (k .address)) in
-      rw (two-next b i clash, within-next ls b i, both i p q)
-      (swap (noTwo clash (heldTo b i)) (okAt b p i) (every (within ls (heldTo b i)) (heldTo b i)) (okAt b q i))
+      rw (two-next b i sameQuestion, within-next ls b i, both i p q)
+      (swap (noTwo sameQuestion (heldTo b i)) (okAt b p i) (every (within ls (heldTo b i)) (heldTo b i)) (okAt b q i))
 
-  pub fits-yes : (i : ℕ) → okAt b (fits b ls i) i ≡ true → fitted b ls i ≡ true → fitted b ls (i + 1) ≡ true
-  fits-yes i h e = fits-next i ∙ (rw (e, h))
+-- slot i has an entry
+module _ (b : List ℕ) (i : ℕ) (held : inUse (getD b (slotAt i) 0) ≡ true) where
+  -- of number x
+  module _ (x : ℕ) (number : x ≡ holdingAt b (slotAt i) .number) where
+    pub numbers-yes : every (λ h. not (numbered x h)) (heldTo b i) ≡ true → noTwo sameNumber (heldTo b i) ≡ true → noTwo sameNumber (heldTo b (i + 1)) ≡ true
+    numbers-yes h e = two-yes b i sameNumber (rw (held, ← number) h) e
 
-  pub fits-no : (n i : ℕ) → i < n → okAt b (fits b ls i) i ≡ false → fitted b ls n ≡ false
-  fits-no n i l h = grows-no (λ j. fitted b ls j) (λ j. okAt b (fits b ls j) j) fits-next n i l h
+    pub numbers-no : (n : ℕ) → i < n → every (λ h. not (numbered x h)) (heldTo b i) ≡ false → noTwo sameNumber (heldTo b n) ≡ false
+    numbers-no n l h = two-no b n i l sameNumber (rw (held, ← number) h)
+
+  module _ (ls : List Line) where
+    pub fits-yes : fits b ls i (holdingAt b (slotAt i)) ≡ true → fitted b ls i ≡ true → fitted b ls (i + 1) ≡ true
+    fits-yes h e = fits-next b ls i ∙ (rw (e, held, h))
+
+    pub fits-no : (n : ℕ) → i < n → fits b ls i (holdingAt b (slotAt i)) ≡ false → fitted b ls n ≡ false
+    fits-no n l h = grows-no (λ j. fitted b ls j) (λ j. okAt b (fits b ls j) j) (fits-next b ls) n i l (rw (held, h))
+
+-- the entries' rules in the code's order
+pub holdings-is : (n : ℕ) (ls : List Line) (hs : List Holding) → soundHoldings n ls hs
+    ≡ every validEntry hs && (noTwo sameNumber hs && ((noTwo sameQuestion hs && every (within ls hs) hs) && leb (reserve ls (count hs) + count hs any) n))
+unfolding soundHoldings
+holdings-is n ls hs = simp and-assoc
 
 -- a roster's lines stand at base 0
 pub lines-given : (r : List ℕ) → linesFrom r 0 (rosterCount r) ≡ rosterLines r

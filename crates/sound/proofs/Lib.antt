@@ -1,2 +1,3 @@
-pub mod PairLaws
 pub mod FitLaws
+pub mod PairLaws
+pub mod FirstLaws

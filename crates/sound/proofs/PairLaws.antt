@@ -1,14 +1,33 @@
--- Two entries as the pass over pairs tests them: the number, then the address, then what is asked. Assumes nothing.
+-- Two entries as the passes over pairs test them: the number; the address, then what is asked. Assumes nothing.
 use Prim.Native.Nat.{ℕ}
-use mathlib.Core.Path.{_≡_, refl, sym, _∙_}
-use mathlib.Core.Bool.{Bool, true, false, not, cond, _&&_, _||_}
+use native.Mathlib.Omega.{arith}
+use mathlib.Core.Path.{_≡_, refl, sym, ap, _∙_}
+use mathlib.Core.Bool.{Bool, true, false, not, cond, _&&_, and-assoc}
+use mathlib.Core.List.{List}
 use lib.Dec.{eqb}
-use Rattle.model.specs.Lists.{same}
+use Rattle.model.specs.Lists.{same, every}
 use Rattle.model.specs.Rules.{Holding, numbered, heldBy}
-use Rattle.model.specs.Sound.{sameNumber, sameQuestion}
-use Rattle.model.proofs.ListLaws.{and-left, and-right}
-use Rattle.layout.specs.Held.{clash}
+use Rattle.model.specs.Sound.{sameQuestion}
+use Rattle.model.proofs.ListLaws.{and-left, count-mono, every-not, not-every}
 use Rattle.record.specs.Asked.{sameAsked}
+
+-- where each that passes p passes q, none passes p if none passes q
+pub none-of : (p q : Holding → Bool) (l : List Holding) → ((h : Holding) → p h ≡ true → q h ≡ true) → every (λ h. not (q h)) l ≡ true
+    → every (λ h. not (p h)) l ≡ true
+none-of p q l i h = not-every p l (let z = every-not q l h in let m = count-mono l p q i in omega arith)
+
+-- u: the slot is in use; v: its entry passes
+unless : (u v : Bool) → cond u (not v) true ≡ not (u && v)
+unless true v = refl
+unless false v = refl
+
+-- u: the slot of h is in use
+module _ (u : Bool) (h : Holding) (x : ℕ) where
+  pub same-number : u && numbered x h ≡ true → cond u (not (numbered x h)) true ≡ false
+  same-number e = unless u (numbered x h) ∙ ap not e
+
+  pub other-number : u && numbered x h ≡ false → cond u (not (numbered x h)) true ≡ true
+  other-number e = unless u (numbered x h) ∙ ap not e
 
 question-is : (h k : Holding) → sameQuestion h k ≡ eqb (h .address) (k .address) && sameAsked h k
 question-is h k = go (eqb (h .address) (k .address))
@@ -18,31 +37,20 @@ question-is h k = go (eqb (h .address) (k .address))
     go true = refl
     go false = refl
 
--- u: the slot of h is in use; x and a are the number and the address of k
-module _ (u : Bool) (h k : Holding) (x a : ℕ) (number : x ≡ k .number) (address : k .address ≡ a) where
-  pub same-number : u && numbered x h ≡ true → cond u (not (clash h k)) true ≡ false
-  same-number e = rw (← number, and-left u (numbered x h) e, and-right u (numbered x h) e)
+-- u: the slot of h is in use; a is the address of k
+module _ (u : Bool) (h k : Holding) (a : ℕ) (address : k .address ≡ a) where
+  asked : cond u (not (sameQuestion h k)) true ≡ not (u && heldBy a h && sameAsked h k)
+  asked = rw (question-is h k, address) (unless u (heldBy a h && sameAsked h k) ∙ ap not (sym (and-assoc u (heldBy a h) (sameAsked h k))))
 
-  hit : u && heldBy a h ≡ true → eqb (h .address) (k .address) ≡ true
-  hit e = rw address (and-right u (heldBy a h) e)
+  pub same-asked : u && heldBy a h ≡ true → sameAsked h k ≡ true → cond u (not (sameQuestion h k)) true ≡ false
+  same-asked e s = asked ∙ (rw (e, s))
 
-  pub same-asked : u && heldBy a h ≡ true → sameAsked h k ≡ true → cond u (not (clash h k)) true ≡ false
-  same-asked e s = rw (question-is h k, hit e, s, and-left u (heldBy a h) e) (go (sameNumber h k))
-    where
-      go : (v : Bool) → not (v || true) ≡ false
-      go true = refl
-      go false = refl
+  pub other-asked : u && heldBy a h ≡ true → sameAsked h k ≡ false → cond u (not (sameQuestion h k)) true ≡ true
+  other-asked e s = asked ∙ (rw (e, s))
 
-  pub other-asked : u && numbered x h ≡ false → u && heldBy a h ≡ true → sameAsked h k ≡ false → cond u (not (clash h k)) true ≡ true
-  other-asked n e s = rw (question-is h k, hit e, s, ← number) (go u n)
-    where
-      go : (v : Bool) → v && numbered x h ≡ false → cond v (not (numbered x h || false)) true ≡ true
-      go true z = rw z
-      go false z = refl
+  pub other-holder : u && heldBy a h ≡ false → cond u (not (sameQuestion h k)) true ≡ true
+  other-holder e = asked ∙ (rw e)
 
-  pub other-holder : u && numbered x h ≡ false → u && heldBy a h ≡ false → cond u (not (clash h k)) true ≡ true
-  other-holder n e = rw (question-is h k, ← number, address) (go u n e)
-    where
-      go : (v : Bool) → v && numbered x h ≡ false → v && heldBy a h ≡ false → cond v (not (numbered x h || (heldBy a h && sameAsked h k))) true ≡ true
-      go true z w = rw (z, w)
-      go false z w = refl
+-- none of the address, none of the address and question
+pub none-asks : (k : Holding) (l : List Holding) → every (λ h. not (heldBy (k .address) h)) l ≡ true → every (λ h. not (sameQuestion h k)) l ≡ true
+none-asks k l = none-of (λ h. sameQuestion h k) (heldBy (k .address)) l (λ h e. and-left (heldBy (k .address) h) (sameAsked h k) (sym (question-is h k) ∙ e))

@@ -1,15 +1,15 @@
 // Whether a table's bytes are sound, and a roster's good: document 01, "A table is sound if ..".
 ghost use mathlib.Core.Path.{_≡_};
-ghost use mathlib.Core.Bool.{true, _&&_};
-ghost use Prim.Native.Nat.{_+_, _*_, _^_, _≤_, _<_};
+ghost use mathlib.Core.Bool.{true, not, _&&_};
+ghost use Prim.Native.Nat.{_+_, _*_, _^_, _≤_, _<_, min};
 ghost use lib.ListN.{length};
 ghost use lib.Dec.{leb, ltb};
 ghost use Rattle.model.specs.Numbers.{bigEndian};
 ghost use Rattle.model.specs.Clock.{cycle};
-ghost use Rattle.model.specs.Lists.{every};
+ghost use Rattle.model.specs.Lists.{every, noTwo};
 ghost use Rattle.model.specs.Table.{slotAt, listed};
-ghost use Rattle.model.specs.Rules.{limitOf};
-ghost use Rattle.model.specs.Sound.{validLine, validEntry, soundRoster, soundHoldings, soundBytes};
+ghost use Rattle.model.specs.Rules.{numbered, heldBy, limitOf};
+ghost use Rattle.model.specs.Sound.{validLine, validEntry, sameNumber, soundRoster, soundHoldings, soundBytes};
 ghost use Rattle.model.specs.Calls.{goodRoster};
 ghost use Rattle.layout.specs.Shape.{all, slotShape, linesTo, tableShape};
 ghost use Rattle.layout.specs.Held.{holdingAt, heldTo, okAt};
@@ -22,7 +22,7 @@ fn slots_shape(t: &[u8], n: usize) -> bool
 {
     let mut i: usize = 0;
     while i < n {
-        if !record::slot_shape(t, 313 + 320 * i) {
+        if !record::slot_shape(t, layout::SLOTS_AT + layout::SLOT * i) {
             return false;
         }
         i += 1;
@@ -49,7 +49,7 @@ fn slot_valid(t: &[u8], i: usize, running: u32) -> bool
     requires { ⌜ (i < 64) × (slotAt (i + 1) ≤ length (now t)) × (running ≡ bigEndian (now t) 5 4) ⌝ }
     ensures { λ r. ⌜ r ≡ okAt (now (t .entry)) validEntry i ⌝ }
 {
-    let a = 313 + 320 * i;
+    let a = layout::SLOTS_AT + layout::SLOT * i;
     if record::in_use(t[a]) {
         return record::valid_entry(t, a, running);
     }
@@ -61,7 +61,7 @@ fn entries_valid(t: &[u8], n: usize) -> bool
     requires { ⌜ (n ≤ 64) × (slotAt n ≤ length (now t)) ⌝ }
     ensures { λ r. ⌜ r ≡ every validEntry (heldTo (now (t .entry)) n) ⌝ }
 {
-    let running = octets::get32(t, 5);
+    let running = octets::get32(t, layout::RUNNING_AT);
     let mut i: usize = 0;
     while i < n {
         if !slot_valid(t, i, running) {
@@ -83,21 +83,31 @@ fn may_add(t: &[u8], m: usize, k: usize, hi: u64, lo: u64) -> bool
     k < roster::limit_of(t, m, hi, lo)
 }
 
-// The entry at c, with those below slot i: none has its number, none has its address and asks the same, and its address is within its limit.
-fn fits_below(t: &[u8], i: usize, c: usize, m: usize) -> bool
-    requires { ⌜ (i ≤ 64) × (m ≤ 16) × (slotAt i ≤ length (now t)) × (c + 320 ≤ length (now t)) × (every validLine (linesTo (now t) m) ≡ true) ⌝ }
-    ensures { λ r. ⌜ r ≡ fits (now (t .entry)) (linesTo (now (t .entry)) m) i (holdingAt (now (t .entry)) c) ⌝ }
+// No entry has the number: those from slot `from` up to i are looked at, and of those below none has it.
+fn number_apart(t: &[u8], from: usize, i: usize, number: u64) -> bool
+    requires { ⌜ (from ≤ i) × (i ≤ 64) × (slotAt i ≤ length (now t)) × (every (λ h. not (numbered number h)) (heldTo (now t) from) ≡ true) ⌝ }
+    ensures { λ r. ⌜ r ≡ every (λ h. not (numbered number h)) (heldTo (now (t .entry)) i) ⌝ }
 {
-    let number = octets::get64(t, c + 19);
-    let hi = octets::get64(t, c + 1);
-    let lo = octets::get64(t, c + 9);
-    let mut k: usize = 0;
-    let mut j: usize = 0;
+    let mut j = from;
     while j < i {
-        let a = 313 + 320 * j;
-        if record::has_number(t, a, number) {
+        if record::has_number(t, layout::SLOTS_AT + layout::SLOT * j, number) {
             return false;
         }
+        j += 1;
+    }
+    true
+}
+
+// The entry at c, with those below slot i: none has its address and asks the same, and its address is within its limit. Those from slot `from` on are looked at, and of those below none has its address.
+fn holder_fits(t: &[u8], from: usize, i: usize, c: usize, m: usize, lo: u64) -> bool
+    requires { ⌜ (from ≤ i) × (i ≤ 64) × (m ≤ 16) × (slotAt i ≤ length (now t)) × (c + 320 ≤ length (now t)) × (every validLine (linesTo (now t) m) ≡ true) × (lo ≡ bigEndian (now t) (c + 9) 8) × (every (λ h. not (heldBy (holdingAt (now t) c .address) h)) (heldTo (now t) from) ≡ true) ⌝ }
+    ensures { λ r. ⌜ r ≡ fits (now (t .entry)) (linesTo (now (t .entry)) m) i (holdingAt (now (t .entry)) c) ⌝ }
+{
+    let hi = octets::get64(t, c + 1);
+    let mut k: usize = 0;
+    let mut j = from;
+    while j < i {
+        let a = layout::SLOTS_AT + layout::SLOT * j;
         if record::has_holder(t, a, hi, lo) {
             if record::same_asked(t, a, c) {
                 return false;
@@ -109,27 +119,57 @@ fn fits_below(t: &[u8], i: usize, c: usize, m: usize) -> bool
     may_add(t, m, k, hi, lo)
 }
 
-// Slot i is free, or its entry fits with those below.
-fn slot_fits(t: &[u8], i: usize, m: usize) -> bool
-    requires { ⌜ (i < 64) × (m ≤ 16) × (slotAt (i + 1) ≤ length (now t)) × (every validLine (linesTo (now t) m) ≡ true) ⌝ }
-    ensures { λ r. ⌜ r ≡ okAt (now (t .entry)) (fits (now (t .entry)) (linesTo (now (t .entry)) m) i) i ⌝ }
+// The slot to look from: the first known, or slot i itself where none is.
+fn earlier(first: u8, i: usize) -> usize
+    ensures { λ r. ⌜ r ≡ min first i ⌝ }
 {
-    let a = 313 + 320 * i;
-    if record::in_use(t[a]) {
-        return fits_below(t, i, a, m);
+    let g = first as usize;
+    if g < i {
+        return g;
+    }
+    i
+}
+
+// No two entries have one number. first[x] is the first slot whose entry's number leaves x when divided by 251, and 64 where there is none: entries of one number leave the same, so those below that slot need not be looked at.
+fn numbers_apart(t: &[u8], n: usize) -> bool
+    requires { ⌜ (n ≤ 64) × (slotAt n ≤ length (now t)) ⌝ }
+    ensures { λ r. ⌜ r ≡ noTwo sameNumber (heldTo (now (t .entry)) n) ⌝ }
+{
+    let mut first = [64u8; 251];
+    let mut i: usize = 0;
+    while i < n {
+        let a = layout::SLOTS_AT + layout::SLOT * i;
+        if record::in_use(t[a]) {
+            let number = octets::get64(t, a + 19);
+            let x = (number % 251) as usize;
+            let p = earlier(first[x], i);
+            if !number_apart(t, p, i, number) {
+                return false;
+            }
+            first[x] = p as u8;
+        }
+        i += 1;
     }
     true
 }
 
-// No two entries have one number, or one address and question; no address holds more than its limit.
-fn entries_fit(t: &[u8], n: usize, m: usize) -> bool
+// No two entries have one address and question, and no address holds more than its limit. first[y] is likewise the first slot whose address's low half leaves y.
+fn holders_fit(t: &[u8], n: usize, m: usize) -> bool
     requires { ⌜ (n ≤ 64) × (m ≤ 16) × (slotAt n ≤ length (now t)) × (every validLine (linesTo (now t) m) ≡ true) ⌝ }
     ensures { λ r. ⌜ r ≡ fitted (now (t .entry)) (linesTo (now (t .entry)) m) n ⌝ }
 {
+    let mut first = [64u8; 251];
     let mut i: usize = 0;
     while i < n {
-        if !slot_fits(t, i, m) {
-            return false;
+        let a = layout::SLOTS_AT + layout::SLOT * i;
+        if record::in_use(t[a]) {
+            let lo = octets::get64(t, a + 9);
+            let y = (lo % 251) as usize;
+            let p = earlier(first[y], i);
+            if !holder_fits(t, p, i, a, m, lo) {
+                return false;
+            }
+            first[y] = p as u8;
         }
         i += 1;
     }
@@ -144,7 +184,10 @@ fn holdings_sound(t: &[u8], n: usize, m: usize) -> bool
     if !entries_valid(t, n) {
         return false;
     }
-    if !entries_fit(t, n, m) {
+    if !numbers_apart(t, n) {
+        return false;
+    }
+    if !holders_fit(t, n, m) {
         return false;
     }
     holdings::reserve_of(t, n, m) + holdings::held(t, n) <= n
@@ -155,7 +198,7 @@ fn rules_sound(t: &[u8], n: usize, m: usize) -> bool
     requires { ⌜ (n ≤ 64) × (m ≤ 16) × (slotAt n ≤ length (now t)) ⌝ }
     ensures { λ r. ⌜ r ≡ (ltb (bigEndian (now (t .entry)) 1 4) cycle && (soundRoster n (linesTo (now (t .entry)) m) && soundHoldings n (linesTo (now (t .entry)) m) (heldTo (now (t .entry)) n))) ⌝ }
 {
-    if octets::get32(t, 1) >= 619315200 {
+    if octets::get32(t, layout::PLACE_AT) >= 619315200 {
         return false;
     }
     if !roster::lines_sound(t, 9, m, n) {
@@ -168,15 +211,8 @@ fn rules_sound(t: &[u8], n: usize, m: usize) -> bool
 pub fn sound(t: &[u8]) -> bool
     ensures { λ r. ⌜ r ≡ soundBytes (now (t .entry)) ⌝ }
 {
-    let len = t.len();
-    if len < 633 {
-        return false;
-    }
-    if len > 20793 {
-        return false;
-    }
-    let n = (len - 313) / 320;
-    if 313 + 320 * n != len {
+    let n = layout::slots(t.len());
+    if !layout::table_length(t.len(), n) {
         return false;
     }
     let m = roster::listed_lines(t);
@@ -194,8 +230,8 @@ pub fn roster_sound(r: &[u8], n: usize) -> bool
     if len > 304 {
         return false;
     }
-    let m = len / 19;
-    if 19 * m != len {
+    let m = len / layout::LINE;
+    if layout::LINE * m != len {
         return false;
     }
     if !roster::kinds_listed(r, m) {

@@ -4,11 +4,13 @@ use native.Mathlib.Nat.{add-zero, add-suc, mul-assoc, pow-suc}
 use native.Mathlib.Omega.{arith}
 use mathlib.Core.Path.{_≡_, refl, sym, ap, _∙_}
 use mathlib.Core.Bool.{Bool, true, false}
-use mathlib.Core.List.{List, [], _∷_, _++_, append-nil, append-assoc}
+use mathlib.Core.List.{List, [], _∷_, _++_, map, append-nil, append-assoc}
 use lib.ListN.{length, drop, replicate, length-append, drop-of-length-le}
-use Rattle.model.specs.Numbers.{bytesOf, splice, encode}
+use Rattle.model.specs.Numbers.{bytesOf, part, splice, encode}
+use Rattle.model.specs.Names.{fold}
 use Rattle.model.specs.Table.{held, slotBytes}
-use Rattle.model.proofs.NumberLaws.{splice-splice, splice-on, length-bytes, length-encode}
+use Rattle.model.proofs.NumberLaws.{splice-splice, splice-on, length-bytes, length-encode, length-part}
+use Rattle.model.proofs.ListLaws.{length-map}
 use Rattle.entries.specs.declared.Entry.{Entry}
 use Rattle.entries.specs.declared.State.the-variants.{Pending, Established}
 use Rattle.table.specs.Stored.{whoFields, whoParts, whatFields, nameBytes, entryBytes, storedAs}
@@ -28,17 +30,19 @@ pub who-is : (e : Entry) → e .low < 2 ^ 64 → encode (whoParts e) ≡ encode 
 unfolding encode
 who-is e h = rw (bytes-add 8 8 (e .high) (e .low) h, append-assoc)
 
-pub name-bytes : (s name : List ℕ) → length s ≡ 320 → length name ≤ 255
-    → splice (40 + length name) (280 - length name) (replicate (280 - length name) 0) (splice 40 (length name) name (splice 39 1 (bytesOf 1 (length name)) s))
-    ≡ splice 39 281 (nameBytes name) s
-name-bytes s name h l =
-    let n = length name in
+-- a name that d has whole keeps its length when it is folded
+pub folded-length : (d : List ℕ) (at len : ℕ) → at + len ≤ length d → length (map fold (part at len d)) ≡ len
+folded-length d at len h = length-map fold (part at len d) ∙ length-part at len d h
+
+pub name-bytes : (s name : List ℕ) (n : ℕ) → length name ≡ n → length s ≡ 320 → n ≤ 255
+    → splice (40 + n) (280 - n) (replicate (280 - n) 0) (splice 40 n name (splice 39 1 (bytesOf 1 n) s)) ≡ splice 39 281 (nameBytes name) s
+name-bytes s name n e h l =
     let a = splice-splice 39 1 n (bytesOf 1 n) name s (length-bytes 1 n) (omega arith) in
-    let ln : length (bytesOf 1 n ++ name) ≡ 1 + n = length-append (bytesOf 1 n) name ∙ ap (λ (k : ℕ). k + n) (length-bytes 1 n) in
+    let ln : length (bytesOf 1 n ++ name) ≡ 1 + n = length-append (bytesOf 1 n) name ∙ (rw (length-bytes 1 n, e)) in
     let z = splice-splice 39 (1 + n) (280 - n) (bytesOf 1 n ++ name) (replicate (280 - n) 0) s ln (omega arith) in
     let p : 40 + n ≡ 39 + (1 + n) = omega arith in
     let q : 1 + n + (280 - n) ≡ 281 = omega arith in
-    rw (a, p, z, q, append-assoc)
+    rw (e, a, p, z, q, append-assoc)
 
 whole : (s vs : List ℕ) → length s ≡ 320 → splice 0 320 vs s ≡ vs
 unfolding splice

@@ -4,11 +4,12 @@ use entries::Entry;
 use entries::State;
 ghost use mathlib.Core.Path.{_≡_};
 ghost use mathlib.Core.Bool.{true};
-ghost use mathlib.Core.List.{_∷_, []};
+ghost use mathlib.Core.List.{_∷_, [], map};
 ghost use Prim.Native.Nat.{_+_, _-_, _*_, _<_, _≤_};
 ghost use lib.ListN.{length};
 ghost use Rattle.model.specs.Lists.{count};
-ghost use Rattle.model.specs.Numbers.{bigEndian, bytesOf, splice, encode};
+ghost use Rattle.model.specs.Numbers.{bigEndian, bytesOf, part, splice, encode};
+ghost use Rattle.model.specs.Names.{fold};
 ghost use Rattle.model.specs.Clock.{cycle};
 ghost use Rattle.model.specs.Table.{slotAt, lineAt, sizeOf, readTable, tableBytes, slotBytes, unusedLine};
 ghost use Rattle.model.specs.Serve.{ended, slotRunOut, movedOn, freeRunOut};
@@ -32,7 +33,7 @@ pub fn end_entry(t: &mut [u8], i: usize)
     requires { ⌜ slotAt (i + 1) ≤ length (now t) ⌝ }
     ensures { λ _. ⌜ now (t .exit) ≡ splice (slotAt i) 320 (slotBytes ended) (now (t .entry)) ⌝ }
 {
-    let a = 313 + 320 * i;
+    let a = layout::SLOTS_AT + layout::SLOT * i;
     put8(t, a, 4);
     octets::clear(t, a + 1, 319);
 }
@@ -72,35 +73,35 @@ fn put_what(s: &mut [u8], e: Entry)
     octets::put16(s, 37, e.qclass);
 }
 
-// The name's length, the name and zeros.
-fn put_name(s: &mut [u8], len: u8, name: &[u8])
-    requires { ⌜ (length (now s) ≡ 320) × (length (now name) ≡ len) ⌝ }
-    ensures { λ _. ⌜ now (s .exit) ≡ splice 39 281 (nameBytes (now (name .entry))) (now (s .entry)) ⌝ }
+// The name's length, the name that d has at a place, folded, and zeros.
+fn put_name(s: &mut [u8], len: u8, d: &[u8], at: usize)
+    requires { ⌜ (length (now s) ≡ 320) × (at + len ≤ length (now d)) ⌝ }
+    ensures { λ _. ⌜ now (s .exit) ≡ splice 39 281 (nameBytes (map fold (part at len (now (d .entry))))) (now (s .entry)) ⌝ }
 {
-    let n = name.len();
+    let n = len as usize;
     put8(s, 39, len);
-    octets::copy(s, 40, name, 0, n);
+    names::copy_folded(s, 40, d, at, n);
     octets::clear(s, 40 + n, 280 - n);
 }
 
-// A slot's 320 bytes.
-fn put_slot(s: &mut [u8], e: Entry, name: &[u8])
-    requires { ⌜ (length (now s) ≡ 320) × (length (now name) ≡ e .len) ⌝ }
-    ensures { λ _. ⌜ now (s .exit) ≡ entryBytes e (now (name .entry)) ⌝ }
+// A slot's bytes.
+fn put_slot(s: &mut [u8], e: Entry, d: &[u8], at: usize)
+    requires { ⌜ (length (now s) ≡ 320) × (at + e .len ≤ length (now d)) ⌝ }
+    ensures { λ _. ⌜ now (s .exit) ≡ entryBytes e (map fold (part at (e .len) (now (d .entry)))) ⌝ }
 {
     put_who(s, e);
     put_what(s, e);
-    put_name(s, e.len, name);
+    put_name(s, e.len, d, at);
 }
 
-// An entry is stored in slot i.
-pub fn put_entry(t: &mut [u8], i: usize, e: Entry, name: &[u8])
-    requires { ⌜ (slotAt (i + 1) ≤ length (now t)) × (length (now name) ≡ e .len) ⌝ }
-    ensures { λ _. ⌜ now (t .exit) ≡ splice (slotAt i) 320 (entryBytes e (now (name .entry))) (now (t .entry)) ⌝ }
+// An entry is stored in slot i, with the name that d has at a place, folded.
+pub fn put_entry(t: &mut [u8], i: usize, e: Entry, d: &[u8], at: usize)
+    requires { ⌜ (slotAt (i + 1) ≤ length (now t)) × (at + e .len ≤ length (now d)) ⌝ }
+    ensures { λ _. ⌜ now (t .exit) ≡ splice (slotAt i) 320 (entryBytes e (map fold (part at (e .len) (now (d .entry))))) (now (t .entry)) ⌝ }
 {
-    let a = 313 + 320 * i;
-    let z = a + 320;
-    put_slot(&mut t[a..z], e, name)
+    let a = layout::SLOTS_AT + layout::SLOT * i;
+    let z = a + layout::SLOT;
+    put_slot(&mut t[a..z], e, d, at)
 }
 
 // The entry of slot i is established: its kind alone.
@@ -108,7 +109,7 @@ pub fn establish_at(t: &mut [u8], i: usize)
     requires { ⌜ slotAt (i + 1) ≤ length (now t) ⌝ }
     ensures { λ _. ⌜ now (t .exit) ≡ splice (slotAt i) 1 (bytesOf 1 6) (now (t .entry)) ⌝ }
 {
-    put8(t, 313 + 320 * i, 6)
+    put8(t, layout::SLOTS_AT + layout::SLOT * i, 6)
 }
 
 // The entry of slot i gets a lease and a stamp.
@@ -116,7 +117,7 @@ pub fn renew_at(t: &mut [u8], i: usize, lease: u32, stamp: u32)
     requires { ⌜ slotAt (i + 1) ≤ length (now t) ⌝ }
     ensures { λ _. ⌜ now (t .exit) ≡ splice (slotAt i + 27) 8 (encode ((4, lease) ∷ (4, stamp) ∷ [])) (now (t .entry)) ⌝ }
 {
-    let a = 313 + 320 * i;
+    let a = layout::SLOTS_AT + layout::SLOT * i;
     octets::put32(t, a + 27, lease);
     octets::put32(t, a + 31, stamp);
 }
@@ -128,8 +129,8 @@ fn put_clock(t: &mut [u8], c: Clock)
     requires { ⌜ 9 ≤ length (now t) ⌝ }
     ensures { λ _. ⌜ now (t .exit) ≡ splice 1 8 (encode ((4, c .place) ∷ (4, c .running) ∷ [])) (now (t .entry)) ⌝ }
 {
-    octets::put32(t, 1, c.place);
-    octets::put32(t, 5, c.running);
+    octets::put32(t, layout::PLACE_AT, c.place);
+    octets::put32(t, layout::RUNNING_AT, c.running);
 }
 
 // Entries that have run out end. Returns how many there were.
@@ -154,10 +155,10 @@ pub fn move_on(t: &mut [u8], place: u32) -> usize
     requires { ⌜ WellFormed (now t) × (bigEndian (now t) 1 4 < cycle) × (place < cycle) ⌝ }
     ensures { λ r. ⌜ Written (now (t .exit)) (movedOn (readTable (now (t .entry))) place) × (r ≡ freedBy (readTable (now (t .entry))) place) ⌝ }
 {
-    let n = entries::slots(t.len());
+    let n = layout::slots(t.len());
     let c = Clock {
-        place: octets::get32(t, 1),
-        running: octets::get32(t, 5),
+        place: octets::get32(t, layout::PLACE_AT),
+        running: octets::get32(t, layout::RUNNING_AT),
     };
     let d = clock::advanced(c, place);
     put_clock(t, d);
@@ -171,7 +172,7 @@ fn clear_line(t: &mut [u8], i: usize)
     requires { ⌜ lineAt (i + 1) ≤ length (now t) ⌝ }
     ensures { λ _. ⌜ now (t .exit) ≡ splice (lineAt i) 19 unusedLine (now (t .entry)) ⌝ }
 {
-    let a = 9 + 19 * i;
+    let a = layout::LINES_AT + layout::LINE * i;
     put8(t, a, 2);
     octets::clear(t, a + 1, 18);
 }
@@ -208,7 +209,7 @@ pub fn make_fresh(t: &mut [u8], n: usize, place: u32, roster: &[u8])
     let k = roster.len();
     put8(t, 0, 1);
     put_clock(t, Clock { place, running: 0 });
-    octets::copy(t, 9, roster, 0, k);
-    clear_lines(t, k / 19);
+    octets::copy(t, layout::LINES_AT, roster, 0, k);
+    clear_lines(t, k / layout::LINE);
     clear_slots(t, n);
 }

@@ -1,17 +1,18 @@
 -- Laws of the name at a place, by which a loop over its labels goes. Assumes nothing.
 use Prim.Native.Nat.{ℕ, zero, suc, _+_, _-_, _≤_, _<_}
-use mathlib.Core.Path.{_≡_, refl, sym, ap, subst, _∙_}
+use mathlib.Core.Path.{_≡_, refl, ap, subst, _∙_}
 use mathlib.Core.List.{List, [], _∷_}
-use mathlib.Core.Bool.{Bool, true, false, cond, _&&_}
+use mathlib.Core.Bool.{cond}
 use mathlib.Core.Logic.{_⊎_, inl, inr, ⊎-elim}
-use native.Mathlib.Nat.{add-zero}
+use native.Mathlib.Nat.{add-zero, eq-zero-or-pos}
 use native.Mathlib.Omega.{arith}
-use lib.ListN.{length, getD, drop, drop-of-length-le, length-drop}
+use lib.ListN.{length, getD, drop, drop-of-length-le}
 use lib.Seq.{drop-cons, drop-drop}
-use lib.Dec.{eqb, ltb, leb}
-use borrow.Author.Tests.{le-ltb, lt-ltb, le-leb, lt-leb, eq-eqb, ne-eqb, ltb-true, ltb-false, eqb-true, eqb-false}
+use lib.Dec.{eqb, ltb}
+use borrow.Author.Tests.{le-leb, lt-leb, ltb-true, ltb-false}
 use Rattle.model.specs.Names.{nameSize}
 use Rattle.model.specs.Query.{nameAt}
+use Rattle.model.proofs.NameLaws.{name-bounds}
 use Rattle.wire.specs.Read.{cursor, readByte, labelOf, readLabel, named, readName}
 use Rattle.wire.specs.declared.Cursor.{Cursor}
 use Rattle.wire.specs.declared.ByteRead.{ByteRead}
@@ -19,31 +20,13 @@ use Rattle.wire.specs.declared.ByteRead.the-variants as byte
 use Rattle.wire.specs.declared.LabelRead.{LabelRead}
 use Rattle.wire.specs.declared.LabelRead.the-variants as label
 use Rattle.wire.specs.declared.NameRead.the-variants as name
-use Rattle.wire.proofs.Choice.{cond-case, cond-when}
+use Rattle.wire.proofs.Choice.{cond-when}
 
 pub size-skip : (k n : ℕ) (s : List ℕ) → nameSize k n s ≡ nameSize 0 (n + k) (drop k s)
 unfolding nameSize
 size-skip zero n s = rw add-zero
 size-skip (suc k) n [] = refl
 size-skip (suc k) n (b ∷ s) = size-skip k (n + 1) s ∙ ap (λ (m : ℕ). nameSize 0 m (drop k s)) (omega arith)
-
--- a name that is found is longer than what was passed
-pub size-ge : (k n : ℕ) (s : List ℕ) → (nameSize k n s ≡ 0) ⊎ (n + k < nameSize k n s)
-unfolding nameSize
-size-ge k n [] = inl refl
-size-ge zero n (b ∷ s) =
-    cond-case (λ w. (w ≡ 0) ⊎ (n + 0 < w)) (eqb b 0) (n + 1) _ (inr (omega arith))
-    (cond-case (λ w. (w ≡ 0) ⊎ (n + 0 < w)) (ltb b 64) _ 0 (⊎-elim (λ e. inl e) (λ l. inr (omega arith)) (size-ge b (n + 1) s)) (inl refl))
-size-ge (suc k) n (b ∷ s) = ⊎-elim (λ e. inl e) (λ l. inr (omega arith)) (size-ge k (n + 1) s)
-
--- a name lies within the bytes
-pub size-le : (k n : ℕ) (s : List ℕ) → nameSize k n s ≤ n + length s
-unfolding nameSize
-size-le k n [] = omega arith
-size-le zero n (b ∷ s) =
-    cond-case (λ w. w ≤ n + suc (length s)) (eqb b 0) (n + 1) _ (omega arith)
-    (cond-case (λ w. w ≤ n + suc (length s)) (ltb b 64) _ 0 (omega (arith, size-le b (n + 1) s)) (omega arith))
-size-le (suc k) n (b ∷ s) = omega (arith, size-le k (n + 1) s)
 
 pub size-step : (s : List ℕ) (p n : ℕ) → p < length s
     → nameSize 0 n (drop p s)
@@ -114,7 +97,10 @@ module _ (s : List ℕ) (start : ℕ) (c : Cursor) (inv : nameAt s start ≡ nam
   pub name-long : 255 ≤ c .at - start → readName s start ≡ name.Bad
   name-long h =
       named-bad start (nameAt s start)
-      (⊎-elim (λ e. inl (inv ∙ e)) (λ l. inr (omega arith)) (size-ge 0 (c .at - start) (drop (c .at) s)))
+      (⊎-elim
+      (λ (e : nameAt s start ≡ 0). inl e)
+      (λ (l : 0 < nameAt s start). inr (let b = name-bounds 0 (c .at - start) (drop (c .at) s) (rw inv at l) .0 in omega arith))
+      (eq-zero-or-pos (nameAt s start)))
 
   pub name-found : (next : Cursor) → start ≤ c .at → c .at - start < 255 → next .at ≡ c .at + 1 → nameSize 0 (c .at - start) (drop (c .at) s) ≡ c .at - start + 1
       → readName s start ≡ name.Name (next .at - start) next
@@ -127,8 +113,3 @@ module _ (s : List ℕ) (start : ℕ) (c : Cursor) (inv : nameAt s start ≡ nam
 pub name-start : (s : List ℕ) (at : ℕ) → nameAt s at ≡ nameSize 0 (at - at) (drop at s)
 unfolding nameAt
 name-start s at = let e : at - at ≡ 0 = omega arith in rw e
-
--- a name that was read lies within the bytes
-pub name-within : (s : List ℕ) (at : ℕ) → at ≤ length s → at + nameAt s at ≤ length s
-unfolding nameAt
-name-within s at h = let g : length (drop at s) ≡ length s - at = length-drop at s in omega (arith, size-le 0 0 (drop at s))

@@ -1,17 +1,16 @@
 -- What holds of whatever the cursor reads as a name, a number, a question or an option. Assumes nothing.
-use Prim.Native.Nat.{ℕ, _+_, _-_, _≤_, _<_}
-use mathlib.Core.Path.{_≡_, refl, sym, ap, subst, _∙_}
+use Prim.Native.Nat.{ℕ, _+_, _≤_, _<_}
+use mathlib.Core.Path.{_≡_, refl, ap, subst}
 use mathlib.Core.List.{List}
-use mathlib.Core.Bool.{Bool, true, false, cond, _&&_}
+use mathlib.Core.Bool.{Bool, true, false, _&&_, and-false}
 use native.Mathlib.Omega.{arith}
-use lib.ListN.{length, getD}
-use lib.Dec.{eqb, ltb, leb}
+use lib.ListN.{length}
+use lib.Dec.{leb}
 use borrow.Author.Tests.{le-leb, lt-leb, leb-true, leb-false}
 use Rattle.model.specs.Numbers.{bigEndian}
 use Rattle.model.specs.Query.{nameAt, goodQuestion, questionEnd, goodOption, optionEnd}
-use Rattle.model.proofs.ListLaws.{and-left, and-right}
 use Rattle.wire.specs.Records.{questionRecord, recordAt}
-use Rattle.wire.specs.Read.{cursor, readNumber, named, readName, readQuestion, readOption}
+use Rattle.wire.specs.Read.{cursor, readNumber, readName, readQuestion, readOption}
 use Rattle.wire.specs.declared.Cursor.{Cursor}
 use Rattle.wire.specs.declared.NumberRead.{NumberRead}
 use Rattle.wire.specs.declared.NumberRead.the-variants as number
@@ -22,7 +21,6 @@ use Rattle.wire.specs.declared.QuestionRead.the-variants as question
 use Rattle.wire.specs.declared.OptionRead.{OptionRead}
 use Rattle.wire.specs.declared.OptionRead.the-variants as option
 use Rattle.wire.proofs.Choice.{cond-when}
-use Rattle.wire.proofs.Names.{name-within}
 
 -- NUMBERS AND NAMES
 
@@ -54,31 +52,15 @@ name-is s at e =
 module _ (s : List ℕ) (at : ℕ) where
   good-is : fitting (nameAt s at) ≡ true → at + nameAt s at + 4 ≤ length s → goodQuestion s at ≡ true
   unfolding goodQuestion
-  good-is f l =
-      let a = and-left (leb 1 (nameAt s at)) (leb (nameAt s at) 255) f in
-      let b = and-right (leb 1 (nameAt s at)) (leb (nameAt s at) 255) f in
-      rw (a, b, le-leb (at + nameAt s at + 4) (length s) l)
+  good-is f l = rw (f, le-leb (at + nameAt s at + 4) (length s) l)
 
-  pub unnamed : fitting (nameAt s at) ≡ false → goodQuestion s at ≡ false
+  unnamed : fitting (nameAt s at) ≡ false → goodQuestion s at ≡ false
   unfolding goodQuestion
-  unnamed f = go (leb 1 (nameAt s at)) (leb (nameAt s at) 255) (leb (at + nameAt s at + 4) (length s)) f
-    where
-      go : (a b c : Bool) → a && b ≡ false → a && b && c ≡ false
-      go true true c e = absurd (no e)
-        where
-          no : true ≡ false → ⊥
-          no z = let w : _≡_ {A = ℕ} 1 0 = ap (λ (t : Bool). cond t 1 0) z in absurd (omega arith)
-      go true false c e = refl
-      go false b c e = refl
+  unnamed f = rw f
 
-  pub cut : length s < at + nameAt s at + 4 → goodQuestion s at ≡ false
+  cut : length s < at + nameAt s at + 4 → goodQuestion s at ≡ false
   unfolding goodQuestion
-  cut l = rw (lt-leb (at + nameAt s at + 4) (length s) l) (go (leb 1 (nameAt s at)) (leb (nameAt s at) 255))
-    where
-      go : (a b : Bool) → a && b && false ≡ false
-      go true true = refl
-      go true false = refl
-      go false b = refl
+  cut l = rw (lt-leb (at + nameAt s at + 4) (length s) l, and-false)
 
   pub question-found : {len qtype qclass : ℕ} {c1 c2 next : Cursor} → readName s at ≡ name.Name len c1 → readNumber s (c1 .at) ≡ number.Number qtype c2
       → readNumber s (c2 .at) ≡ number.Number qclass next → readQuestion s at ≡ question.Found at len qtype qclass next
@@ -114,31 +96,15 @@ module _ (s : List ℕ) (at : ℕ) where
       let e2 : c2 .at ≡ c1 .at + 2 = ap (λ (c : Cursor). c .at) (p' .1) in
       rw (cut (omega arith))
 
-  pub good-within : goodQuestion s at ≡ true → (1 ≤ nameAt s at) × (nameAt s at ≤ 255) × (at + nameAt s at + 4 ≤ length s)
-  unfolding goodQuestion
-  good-within e = go (leb 1 (nameAt s at)) (leb (nameAt s at) 255) (leb (at + nameAt s at + 4) (length s)) refl refl refl e
-    where
-      no : {X : Type 0} → false ≡ true → X
-      no z = let w : _≡_ {A = ℕ} 0 1 = ap (λ (t : Bool). cond t 1 0) z in absurd (omega arith)
-
-      go : (a b c : Bool) → leb 1 (nameAt s at) ≡ a → leb (nameAt s at) 255 ≡ b → leb (at + nameAt s at + 4) (length s) ≡ c → a && b && c ≡ true
-          → (1 ≤ nameAt s at) × (nameAt s at ≤ 255) × (at + nameAt s at + 4 ≤ length s)
-      go true true true p q r z = (leb-true 1 (nameAt s at) p, leb-true (nameAt s at) 255 q, leb-true (at + nameAt s at + 4) (length s) r)
-      go true true false p q r z = no z
-      go true false c p q r z = no z
-      go false b c p q r z = no z
-
 abbrev pub QuestionIs : List ℕ → ℕ → QuestionRead → Type 0
 QuestionIs s at (question.Found start len qtype qclass next) =
-    (goodQuestion s at ≡ true) × (questionRecord s start len qtype qclass ≡ recordAt s at) × (next .at ≡ questionEnd s at) × (len ≤ 255) × (start + len ≤ length s)
+    (goodQuestion s at ≡ true) × (questionRecord start len qtype qclass ≡ recordAt s at) × (next .at ≡ questionEnd s at)
 QuestionIs s at question.Bad = goodQuestion s at ≡ false
 
 pub question-is : (s : List ℕ) (at : ℕ) {r : QuestionRead} → readQuestion s at ≡ r → QuestionIs s at r
 question-is s at e =
     subst (QuestionIs s at) e
-    (cond-when (QuestionIs s at) (goodQuestion s at) _ _
-    (λ t. let g = good-within s at t in (t, refl, refl, g .1, omega arith))
-    (λ t. t))
+    (cond-when (QuestionIs s at) (goodQuestion s at) _ _ (λ t. (t, refl, refl)) (λ t. t))
 
 -- OPTIONS
 

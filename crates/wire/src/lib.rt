@@ -2,8 +2,7 @@
 ghost use mathlib.Core.Path.{_≡_};
 ghost use Prim.Native.Nat.{_+_, _≤_};
 ghost use lib.ListN.{length};
-ghost use Rattle.model.specs.Names.{fold};
-ghost use Rattle.wire.specs.Records.{foldedName, questionRecord, optionRecord};
+ghost use Rattle.wire.specs.Records.{optionRecord};
 ghost use Rattle.wire.specs.Read.{readByte, readNumber, readLabel, readName, readQuestion, readOption};
 
 pub mod write;
@@ -13,9 +12,9 @@ pub struct MessageNumber(pub u16);
 
 pub struct LlqNumber(pub u64);
 
-// A question: its name's wire bytes, folded and padded with zeros, how many bytes the name takes, its type and class.
+// A question: where its name starts in the datagram, how many bytes the name takes, its type and class.
 pub struct Question {
-    pub name: [u8; 255],
+    pub start: usize,
     pub len: usize,
     pub qtype: u16,
     pub qclass: u16,
@@ -195,47 +194,6 @@ impl Cursor {
             size,
             next: Cursor { at: start + size },
         }
-    }
-}
-
-// Names compare and are stored with A to Z folded to a to z, other bytes as they are.
-pub fn fold(b: u8) -> u8
-    ensures { λ r. ⌜ r ≡ fold b ⌝ }
-{
-    if b < 65 {
-        return b;
-    }
-    if b > 90 {
-        return b;
-    }
-    b + 32
-}
-
-// The len bytes from index at, folded, and zeros after them.
-pub fn folded(s: &[u8], at: usize, len: usize) -> [u8; 255]
-    requires { ⌜ (len ≤ 255) × (at + len ≤ length (now s)) ⌝ }
-    ensures { λ r. ⌜ r ≡ foldedName (now (s .entry)) at len ⌝ }
-{
-    let mut name = [0u8; 255];
-    let mut i: usize = 0;
-    while i < len {
-        name[i] = fold(s[at + i]);
-        i = i + 1;
-    }
-    name
-}
-
-// A question by value, from what the cursor found.
-pub fn question_of(s: &[u8], at: usize, len: usize, qtype: u16, qclass: u16) -> Question
-    requires { ⌜ (len ≤ 255) × (at + len ≤ length (now s)) ⌝ }
-    ensures { λ r. ⌜ r ≡ questionRecord (now (s .entry)) at len qtype qclass ⌝ }
-{
-    let name = folded(s, at, len);
-    Question {
-        name,
-        len,
-        qtype,
-        qclass,
     }
 }
 

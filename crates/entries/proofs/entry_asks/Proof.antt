@@ -6,9 +6,12 @@ use native.Mathlib.Omega.{arith}
 use mathlib.Core.Path.{_≡_, sym, ap, _∙_}
 use borrow.Author.Needs.{needs}
 use borrow.Author.Tests.{not-true, not-false, eq-eqb, ne-eqb}
+use mathlib.Core.List.{map}
 use lib.ListN.{length, getD}
 use Rattle.model.specs.Table.{readEntry}
-use Rattle.model.proofs.NumberLaws.{length-part, part-all}
+use Rattle.model.specs.Names.{fold}
+use Rattle.model.proofs.NumberLaws.{length-part}
+use Rattle.model.proofs.ListLaws.{length-map}
 use Rattle.layout.specs.Held.{holdingAt}
 use Rattle.octets.proofs.Laws.{same-no}
 use Rattle.entries.proofs.entry_asks.Statement.{statement}
@@ -16,7 +19,7 @@ use Rattle.entries.proofs.entry_asks.Tie as tie
 use Rattle.entries.proofs.entry_asks.Reads as reads
 use Rattle.entries.proofs.entry_asks.Lts as lts
 use Rattle.record.proofs.has_address.Reads as has-address-reads
-use Rattle.octets.proofs.equal.Reads as equal-reads
+use Rattle.names.proofs.same_name.Reads as same-name-reads
 use Rattle.octets.proofs.get16.Reads as get16-reads
 
 add-has-address : tie.Need-add-has-address
@@ -49,7 +52,7 @@ get16-requires-2 c κs = search needs
 returns-3 : tie.Need-returns-3
 unfolding holdingAt readEntry
 returns-3 c =
-    rw (sym (c .before .before .before .before .before .before .has-address .ensures) ∙ not-false _ (c .before .before .before .before .before .if1 .left), ← c .before .before .before .before .get16 .ensures, eq-eqb _ _ (c .before .before .if2 .left), ← c .before .get162 .ensures, ne-eqb _ _ (c .if3 .taken))
+    rw (sym (c .before .before .before .before .before .before .before .has-address .ensures) ∙ not-false _ (c .before .before .before .before .before .before .if1 .left), ← c .before .before .before .before .before .get16 .ensures, eq-eqb _ _ (c .before .before .before .if2 .left), ← c .before .before .get162 .ensures, ne-eqb _ _ (c .if3 .taken))
 
 add-get16-3 : tie.Need-add-get16-3
 add-get16-3 c = search needs
@@ -61,12 +64,12 @@ returns-4 : tie.Need-returns-4
 unfolding holdingAt readEntry
 returns-4 c =
     rw (
-      sym (c .before .before .before .before .before .before .before .before .has-address .ensures) ∙ not-false _ (c .before .before .before .before .before .before .before .if1 .left),
-      ← c .before .before .before .before .before .before .get16 .ensures,
-      eq-eqb _ _ (c .before .before .before .before .if2 .left),
-      ← c .before .before .before .get162 .ensures,
-      eq-eqb _ _ (c .before .before .if3 .left),
-      ← c .before .get163 .ensures,
+      sym (c .before .before .before .before .before .before .before .before .before .before .has-address .ensures) ∙ not-false _ (c .before .before .before .before .before .before .before .before .before .if1 .left),
+      ← c .before .before .before .before .before .before .before .before .get16 .ensures,
+      eq-eqb _ _ (c .before .before .before .before .before .before .if2 .left),
+      ← c .before .before .before .before .before .get162 .ensures,
+      eq-eqb _ _ (c .before .before .before .if3 .left),
+      ← c .before .before .get163 .ensures,
       ne-eqb _ _ (c .if4 .taken),
     )
 
@@ -78,47 +81,50 @@ shared-slice-read-len c = search needs
 
 cast-len : tie.Need-cast-len
 cast-len c =
-    omega (arith, c .before .before .before .before .before .before .before .before .before .before .before .shared-slice-known .given (c .before .before .before .before .before .before .before .before .before .before .before .before .args .a + 39))
+    omega (arith, c .before .before .before .before .before .before .before .before .before .before .before .before .before .shared-slice-known .given (c .before .before .before .before .before .before .before .before .before .before .before .before .before .before .args .a + 39))
 
 returns-5 : tie.Need-returns-5
 unfolding holdingAt readEntry
 returns-5 c =
-    let a = c .before .before .before .before .before .before .before .before .before .before .before .before .before .args in
-    let l = length-part (a .a + 40) (getD (a .t .now) (a .a + 39) 0) (a .t .now) (omega (arith, c .before .before .before .before .before .before .before .before .before .before .before .before .shared-slice-known .given (a .a + 39))) in
+    let a = c .before .before .before .before .before .before .before .before .before .before .before .before .before .before .before .before .args in
+    let l = length-part (a .a + 40) (getD (a .t .now) (a .a + 39) 0) (a .t .now) (omega (arith, c .before .before .before .before .before .before .before .before .before .before .before .before .before .before .before .shared-slice-known .given (a .a + 39))) in
+    let w = part (a .q .start) (a .q .len) (a .d .now) in
+    let m : length (map fold w) ≡ a .q .len = length-map fold w ∙ length-part (a .q .start) (a .q .len) (a .d .now) (c .before .before .before .before .before .before .before .before .before .before .before .before .before .before .before .before .pre .1) in
     rw (
-      sym (c .before .before .before .before .before .before .before .before .before .before .has-address .ensures) ∙ not-false _ (c .before .before .before .before .before .before .before .before .before .if1 .left),
-      ← c .before .before .before .before .before .before .before .before .get16 .ensures,
-      eq-eqb _ _ (c .before .before .before .before .before .before .if2 .left),
-      ← c .before .before .before .before .before .get162 .ensures,
-      eq-eqb _ _ (c .before .before .before .before .if3 .left),
-      ← c .before .before .before .get163 .ensures,
-      eq-eqb _ _ (c .before .before .if4 .left),
+      sym (c .before .before .before .before .before .before .before .before .before .before .before .before .before .has-address .ensures) ∙ not-false _ (c .before .before .before .before .before .before .before .before .before .before .before .before .if1 .left),
+      ← c .before .before .before .before .before .before .before .before .before .before .before .get16 .ensures,
+      eq-eqb _ _ (c .before .before .before .before .before .before .before .before .before .if2 .left),
+      ← c .before .before .before .before .before .before .before .before .get162 .ensures,
+      eq-eqb _ _ (c .before .before .before .before .before .before .if3 .left),
+      ← c .before .before .before .before .before .get163 .ensures,
+      eq-eqb _ _ (c .before .before .before .if4 .left),
     )
-    (sym (same-no _ _ (λ z. c .if5 .taken (sym l ∙ ap length z))))
+    (sym (same-no _ _ (λ z. c .if5 .taken (sym l ∙ ap length z ∙ m))))
 
-add-equal : tie.Need-add-equal
-add-equal c = search needs
+add-same-name : tie.Need-add-same-name
+add-same-name c = search needs
 
-equal-requires : tie.Need-equal-requires
-equal-requires c κs =
-    (omega (arith, c .before .before .before .before .before .before .before .before .before .before .before .before .shared-slice-known .given (c .before .before .before .before .before .before .before .before .before .before .before .before .before .args .a + 39)), omega arith)
+same-name-requires : tie.Need-same-name-requires
+same-name-requires c κs =
+    (omega (arith, c .before .before .before .before .before .before .before .before .before .before .before .before .before .before .before .shared-slice-known .given (c .before .before .before .before .before .before .before .before .before .before .before .before .before .before .before .before .args .a + 39)), omega arith)
 
 returns-6 : tie.Need-returns-6
 unfolding holdingAt readEntry
 returns-6 c =
-    let a = c .before .before .before .before .before .before .before .before .before .before .before .before .before .before .args in
+    let a = c .before .before .before .before .before .before .before .before .before .before .before .before .before .before .before .before .before .args in
     let n = c .before .if5 .left in
-    let w : part 0 (getD (a .t .now) (a .a + 39) 0) (a .name .now) ≡ a .name .now = ap (λ (k : ℕ). part 0 k (a .name .now)) n ∙ part-all (a .name .now) in
+    let w : map fold (part (a .q .start) (getD (a .t .now) (a .a + 39) 0) (a .d .now)) ≡ map fold (part (a .q .start) (a .q .len) (a .d .now)) =
+    ap (λ (k : ℕ). map fold (part (a .q .start) k (a .d .now))) n in
     rw (
-      sym (c .before .before .before .before .before .before .before .before .before .before .before .has-address .ensures) ∙ not-false _ (c .before .before .before .before .before .before .before .before .before .before .if1 .left),
-      ← c .before .before .before .before .before .before .before .before .before .get16 .ensures,
-      eq-eqb _ _ (c .before .before .before .before .before .before .before .if2 .left),
-      ← c .before .before .before .before .before .before .get162 .ensures,
-      eq-eqb _ _ (c .before .before .before .before .before .if3 .left),
-      ← c .before .before .before .before .get163 .ensures,
-      eq-eqb _ _ (c .before .before .before .if4 .left),
+      sym (c .before .before .before .before .before .before .before .before .before .before .before .before .before .before .has-address .ensures) ∙ not-false _ (c .before .before .before .before .before .before .before .before .before .before .before .before .before .if1 .left),
+      ← c .before .before .before .before .before .before .before .before .before .before .before .before .get16 .ensures,
+      eq-eqb _ _ (c .before .before .before .before .before .before .before .before .before .before .if2 .left),
+      ← c .before .before .before .before .before .before .before .before .before .get162 .ensures,
+      eq-eqb _ _ (c .before .before .before .before .before .before .before .if3 .left),
+      ← c .before .before .before .before .before .before .get163 .ensures,
+      eq-eqb _ _ (c .before .before .before .before .if4 .left),
     )
-    (c .equal .ensures ∙ ap (same (part (a .a + 40) (getD (a .t .now) (a .a + 39) 0) (a .t .now))) w)
+    (c .same-name .ensures ∙ ap (same (part (a .a + 40) (getD (a .t .now) (a .a + 39) 0) (a .t .now))) w)
 
 pub entry-asks-spec : {M : Type 1} → statement M
 entry-asks-spec =
@@ -140,6 +146,6 @@ entry-asks-spec =
     shared-slice-read-len
     cast-len
     returns-5
-    add-equal
-    equal-requires
+    add-same-name
+    same-name-requires
     returns-6)

@@ -2,33 +2,47 @@
 use Prim.Native.Nat.{_-_, _≤_}
 use native.Mathlib.Omega.{arith}
 use mathlib.Core.Path.{_≡_, sym, _∙_}
+use mathlib.Core.Logic.{⊎-elim}
 use borrow.Author.Needs.{needs}
 use Rattle.model.specs.Numbers.{bigEndian}
-use Rattle.model.specs.Rules.{asks}
+use Rattle.model.specs.Rules.{asks, heldBy}
 use Rattle.model.specs.Serve.{has}
-use Rattle.entries.specs.Reads.{senderOf, asked, noneTo}
+use Rattle.layout.specs.Held.{holdingAt}
+use Rattle.wire.specs.Records.{questionOf}
+use Rattle.entries.specs.Reads.{senderOf, noneTo}
 use Rattle.entries.proofs.Laws as law
 use Rattle.entries.proofs.find_asked.Statement.{statement}
 use Rattle.entries.proofs.find_asked.Tie as tie
 use Rattle.entries.proofs.find_asked.Reads as reads
 use Rattle.entries.proofs.find_asked.Lts as lts
+use Rattle.record.proofs.has_holder.Reads as has-holder-reads
 use Rattle.entries.proofs.slot_asks.Reads as slot-asks-reads
 
 abbrev Inv-loop : tie.InvT-loop
-Inv-loop t n s name qtype qclass i₀ i = (i ≤ n) × noneTo t (has (bigEndian t 5 4) (asks (senderOf s .address) (s .port) (asked name qtype qclass))) i
+Inv-loop t n s d q i₀ i = (i ≤ n) × noneTo t (has (bigEndian t 5 4) (asks (senderOf s .address) (s .port) (questionOf d q))) i
 
 abbrev μ-loop : tie.MeasureT-loop
-μ-loop t n s name qtype qclass i₀ i = n - i
+μ-loop t n s d q i₀ i = n - i
 
 loop-holds : tie.Need-loop-holds Inv-loop μ-loop
 loop-holds c = (search needs, law.none-yet _ _)
+
+mul-has-holder : tie.Need-mul-has-holder Inv-loop μ-loop
+mul-has-holder c = search needs
+
+add-has-holder : tie.Need-add-has-holder Inv-loop μ-loop
+add-has-holder c = search needs
+
+has-holder-requires : tie.Need-has-holder-requires Inv-loop μ-loop
+has-holder-requires c κs = search needs
 
 slot-asks-requires : tie.Need-slot-asks-requires Inv-loop μ-loop
 slot-asks-requires c κs = search needs
 
 returns : tie.Need-returns Inv-loop μ-loop
 returns c =
-    sym (law.found _ _ (c .before .before .before .before .before .before .pre) _ (c .before .before .before .loop .i) (omega arith) (c .before .before .before .loop .inv .1) (sym (c .before .slot-asks .ensures) ∙ c .if1 .taken))
+    let l = c .before .before .before .before .before .loop in
+    sym (law.found _ _ (c .before .before .before .before .before .before .before .before .pre .0) _ (l .i) (omega arith) (l .inv .1) (sym (c .before .slot-asks .ensures) ∙ c .if2 .taken))
 
 add-i : tie.Need-add-i Inv-loop μ-loop
 add-i c = search needs
@@ -37,13 +51,24 @@ loop-less : tie.Need-loop-less Inv-loop μ-loop
 loop-less c = search needs
 
 loop-again : tie.Need-loop-again Inv-loop μ-loop
+unfolding holdingAt
 loop-again c =
-    (omega arith, law.none-still _ _ (c .before .before .before .loop .i) (sym (c .before .slot-asks .ensures) ∙ c .if1 .left) (c .before .before .before .loop .inv .1))
+    let l = c .before .before .before .loop in
+    let a = c .before .before .before .before .before .before .args in (
+      omega arith,
+      law.none-still _ _ (l .i)
+          (⊎-elim
+          (λ w. sym (w .1 .ensures) ∙ w .2 .left)
+          (λ w. law.fails-part _ _ (heldBy (senderOf (a .s) .address)) _ _ (λ h e. rw e) (sym (c .before .has-holder .ensures) ∙ w .left))
+          (c .if1 .came))
+          (l .inv .1),
+    )
 
 returns-2 : tie.Need-returns-2 Inv-loop μ-loop
 returns-2 c =
-    let e : c .before .loop .i ≡ c .before .before .before .before .args .n = omega arith in
-    sym (law.not-found _ _ (c .before .before .before .before .pre) _ (rw e at (c .before .loop .inv .1)))
+    let z = c .before .before .before .before in
+    let e : c .before .loop .i ≡ z .args .n = omega arith in
+    sym (law.not-found _ _ (z .pre .0) _ (rw e at (c .before .loop .inv .1)))
 
 pub find-asked-spec : {M : Type 1} → statement M
 find-asked-spec =
@@ -52,6 +77,9 @@ find-asked-spec =
     Inv-loop
     μ-loop
     loop-holds
+    mul-has-holder
+    add-has-holder
+    has-holder-requires
     slot-asks-requires
     returns
     add-i

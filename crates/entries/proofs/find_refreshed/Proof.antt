@@ -2,33 +2,48 @@
 use Prim.Native.Nat.{_-_, _≤_}
 use native.Mathlib.Omega.{arith}
 use mathlib.Core.Path.{_≡_, sym, _∙_}
+use mathlib.Core.Logic.{⊎-elim}
+use mathlib.Core.Bool.{and-false}
 use borrow.Author.Needs.{needs}
 use Rattle.model.specs.Numbers.{bigEndian}
+use Rattle.model.specs.Rules.{numbered}
 use Rattle.model.specs.Serve.{has, refreshes}
-use Rattle.entries.specs.Reads.{senderOf, asked, sent, noneTo}
+use Rattle.layout.specs.Held.{holdingAt}
+use Rattle.wire.specs.Records.{questionOf}
+use Rattle.entries.specs.Reads.{senderOf, sent, noneTo}
 use Rattle.entries.proofs.Laws as law
 use Rattle.entries.proofs.find_refreshed.Statement.{statement}
 use Rattle.entries.proofs.find_refreshed.Tie as tie
 use Rattle.entries.proofs.find_refreshed.Reads as reads
 use Rattle.entries.proofs.find_refreshed.Lts as lts
+use Rattle.record.proofs.has_number.Reads as has-number-reads
 use Rattle.entries.proofs.slot_refreshes.Reads as slot-refreshes-reads
 
 abbrev Inv-loop : tie.InvT-loop
-Inv-loop t n s name qtype qclass number i₀ i =
-    (i ≤ n) × noneTo t (has (bigEndian t 5 4) (refreshes (senderOf s) (asked name qtype qclass) (sent number 0))) i
+Inv-loop t n s d q number i₀ i = (i ≤ n) × noneTo t (has (bigEndian t 5 4) (refreshes (senderOf s) (questionOf d q) (sent number 0))) i
 
 abbrev μ-loop : tie.MeasureT-loop
-μ-loop t n s name qtype qclass number i₀ i = n - i
+μ-loop t n s d q number i₀ i = n - i
 
 loop-holds : tie.Need-loop-holds Inv-loop μ-loop
 loop-holds c = (search needs, law.none-yet _ _)
+
+mul-has-number : tie.Need-mul-has-number Inv-loop μ-loop
+mul-has-number c = search needs
+
+add-has-number : tie.Need-add-has-number Inv-loop μ-loop
+add-has-number c = search needs
+
+has-number-requires : tie.Need-has-number-requires Inv-loop μ-loop
+has-number-requires c κs = search needs
 
 slot-refreshes-requires : tie.Need-slot-refreshes-requires Inv-loop μ-loop
 slot-refreshes-requires c κs = search needs
 
 returns : tie.Need-returns Inv-loop μ-loop
 returns c =
-    sym (law.found _ _ (c .before .before .before .before .before .before .pre) _ (c .before .before .before .loop .i) (omega arith) (c .before .before .before .loop .inv .1) (sym (c .before .slot-refreshes .ensures) ∙ c .if1 .taken))
+    let l = c .before .before .before .before .before .loop in
+    sym (law.found _ _ (c .before .before .before .before .before .before .before .before .pre .0) _ (l .i) (omega arith) (l .inv .1) (sym (c .before .slot-refreshes .ensures) ∙ c .if2 .taken))
 
 add-i : tie.Need-add-i Inv-loop μ-loop
 add-i c = search needs
@@ -37,13 +52,24 @@ loop-less : tie.Need-loop-less Inv-loop μ-loop
 loop-less c = search needs
 
 loop-again : tie.Need-loop-again Inv-loop μ-loop
+unfolding holdingAt
 loop-again c =
-    (omega arith, law.none-still _ _ (c .before .before .before .loop .i) (sym (c .before .slot-refreshes .ensures) ∙ c .if1 .left) (c .before .before .before .loop .inv .1))
+    let l = c .before .before .before .loop in
+    let a = c .before .before .before .before .before .before .args in (
+      omega arith,
+      law.none-still _ _ (l .i)
+          (⊎-elim
+          (λ w. sym (w .1 .ensures) ∙ w .2 .left)
+          (λ w. law.fails-part _ _ (numbered (a .number)) _ _ (λ h e. rw e (and-false (h .established))) (sym (c .before .has-number .ensures) ∙ w .left))
+          (c .if1 .came))
+          (l .inv .1),
+    )
 
 returns-2 : tie.Need-returns-2 Inv-loop μ-loop
 returns-2 c =
-    let e : c .before .loop .i ≡ c .before .before .before .before .args .n = omega arith in
-    sym (law.not-found _ _ (c .before .before .before .before .pre) _ (rw e at (c .before .loop .inv .1)))
+    let z = c .before .before .before .before in
+    let e : c .before .loop .i ≡ z .args .n = omega arith in
+    sym (law.not-found _ _ (z .pre .0) _ (rw e at (c .before .loop .inv .1)))
 
 pub find-refreshed-spec : {M : Type 1} → statement M
 find-refreshed-spec =
@@ -52,6 +78,9 @@ find-refreshed-spec =
     Inv-loop
     μ-loop
     loop-holds
+    mul-has-number
+    add-has-number
+    has-number-requires
     slot-refreshes-requires
     returns
     add-i

@@ -10,7 +10,8 @@ use Rattle.model.specs.Clock.{validReading}
 use Rattle.model.specs.Table.{slotsIn}
 use Rattle.model.specs.Calls.{tableLength, goodRoster}
 use Rattle.llq.proofs.LadderLaws as ladder
-use Rattle.llq.proofs.AnswerLaws.{length-right, fresh-is}
+use Rattle.layout.proofs.LengthLaws.{length-right}
+use Rattle.llq.proofs.AnswerLaws.{fresh-is}
 use borrow.Author.Needs.{needs}
 use Rattle.llq.proofs.llq_make.Statement.{statement}
 use Rattle.llq.proofs.llq_make.Tie as tie
@@ -18,8 +19,8 @@ use Rattle.llq.proofs.llq_make.Reads as reads
 use Rattle.llq.proofs.llq_make.Lts as lts
 use Rattle.clock.proofs.place.Reads as place-reads
 use Rattle.clock.proofs.valid.Reads as valid-reads
-use Rattle.entries.proofs.slots.Reads as slots-reads
-use Rattle.llq.proofs.table_length.Reads as table-length-reads
+use Rattle.layout.proofs.slots.Reads as slots-reads
+use Rattle.layout.proofs.table_length.Reads as table-length-reads
 use Rattle.sound.proofs.roster_sound.Reads as roster-sound-reads
 use Rattle.table.proofs.make_fresh.Reads as make-fresh-reads
 
@@ -60,7 +61,7 @@ place-requires c κs = started (c .before .before .before) .1
 
 make-fresh-requires : tie.Need-make-fresh-requires
 make-fresh-requires c κs =
-    let right = length-right _ (started (c .before .before .before .before) .0) in
+    let right = length-right _ (started (c .before .before .before .before) .0) .0 in
     (omega (arith, right, c .before .before .before .before .before .before .before .before .slots .ensures), sym (c .before .before .before .roster-sound .ensures) ∙ not-false _ (c .before .before .if3 .left))
 
 same-length : tie.Need-same-length

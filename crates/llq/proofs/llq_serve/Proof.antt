@@ -20,7 +20,7 @@ use Rattle.clock.proofs.valid.Reads as valid-reads
 use Rattle.llq.proofs.answer.Reads as answer-reads
 use Rattle.llq.proofs.refuse.Reads as refuse-reads
 use Rattle.llq.proofs.reply_length.Reads as reply-length-reads
-use Rattle.query.proofs.judge.Reads as judge-reads
+use Rattle.query.proofs.parse.Reads as parse-reads
 use Rattle.sound.proofs.sound.Reads as sound-reads
 use Rattle.table.proofs.move_on.Reads as move-on-reads
 
@@ -29,8 +29,8 @@ started : (c : tie.Else2) → (soundBytes (c .before .before .before .before .be
 started c = (sym (c .before .before .before .sound .ensures) ∙ not-false _ (c .before .before .if1 .left), sym (c .before .valid .ensures) ∙ not-false _ (c .if2 .left))
 
 -- and the datagram
-judged : (c : tie.Else3) → queryRefusal (now (c .before .before .before .before .before .before .before .before .before .before .args .datagram)) ≡ 0
-judged c = sym (c .before .judge .ensures .refused) ∙ c .if3 .left
+parsed : (c : tie.Else3) → queryRefusal (now (c .before .before .before .before .before .before .before .before .before .before .args .datagram)) ≡ 0
+parsed c = sym (c .before .parse .ensures .refused) ∙ c .if3 .left
 
 sound-requires : tie.Need-sound-requires
 sound-requires c κs = search needs
@@ -58,8 +58,8 @@ returns-2 c =
     let e = sym (c .before .before .before .before .sound .ensures) ∙ not-false _ (c .before .before .before .if1 .left) in
     rw (c .refuse2 .ensures) (ladder.serve-reading _ _ _ e (sym (c .before .before .valid .ensures) ∙ not-true _ (c .before .if2 .taken)))
 
-judge-requires : tie.Need-judge-requires
-judge-requires c κs = search needs
+parse-requires : tie.Need-parse-requires
+parse-requires c κs = search needs
 
 refuse-requires-3 : tie.Need-refuse-requires-3
 refuse-requires-3 c κs = search needs
@@ -70,11 +70,10 @@ same-length-3 c = search needs
 returns-3 : tie.Need-returns-3
 returns-3 c =
     let p = started (c .before .before .before) in
-    rw (c .refuse3 .ensures) (ladder.serve-query _ _ _ _ (p .0) (p .1) (c .before .before .judge .ensures .refused) (omega (arith, c .before .if3 .taken)))
+    rw (c .refuse3 .ensures) (ladder.serve-query _ _ _ _ (p .0) (p .1) (c .before .before .parse .ensures .refused) (omega (arith, c .before .if3 .taken)))
 
 reply-length-requires : tie.Need-reply-length-requires
-reply-length-requires c κs =
-    let j = c .before .judge .ensures in (measures (now (c .before .before .before .before .before .before .before .before .before .before .args .datagram)) _ j (c .if3 .left), j .found (c .if3 .left) .matched)
+reply-length-requires c κs = let h = c .before .before .parse .ensures .holds (c .before .if3 .left) in (measures (now (c .before .before .before .before .before .before .before .before .before .before .before .args .datagram)) _ h, h .matched)
 
 refuse-requires-4 : tie.Need-refuse-requires-4
 refuse-requires-4 c κs = search needs
@@ -84,10 +83,10 @@ same-length-4 c = search needs
 
 returns-4 : tie.Need-returns-4
 returns-4 c =
-    let r = c .before .before .before in
+    let r = c .before .before .before .before in
     let p = started (r .before .before) in
     let room = ladder.no-room _ _ _ (c .before .before .reply-length .ensures) (c .before .if4 .taken) in
-    rw (c .refuse4 .ensures) (ladder.serve-room _ _ _ (p .0) (p .1) (judged r) room)
+    rw (c .refuse4 .ensures) (ladder.serve-room _ _ _ (p .0) (p .1) (parsed r) room)
 
 refuse-requires-5 : tie.Need-refuse-requires-5
 refuse-requires-5 c κs = search needs
@@ -97,27 +96,27 @@ same-length-5 c = search needs
 
 returns-5 : tie.Need-returns-5
 returns-5 c =
-    let r = c .before .before .before .before in
+    let r = c .before .before .before .before .before in
     let p = started (r .before .before) in
     let long = ladder.too-long _ _ _ (c .before .before .before .reply-length .ensures) (c .before .if5 .taken) in
-    rw (c .refuse5 .ensures) (ladder.serve-room _ _ _ (p .0) (p .1) (judged r) long)
+    rw (c .refuse5 .ensures) (ladder.serve-room _ _ _ (p .0) (p .1) (parsed r) long)
 
 place-requires : tie.Need-place-requires
-place-requires c κs = started (c .before .before .before .before .before .before) .1
+place-requires c κs = started (c .before .before .before .before .before .before .before) .1
 
 move-on-requires : tie.Need-move-on-requires
 move-on-requires c κs =
-    let b = c .before .before .before .before .before .before .before .before .before .before .before .before .before .before .before .args .t .now in
-    let e = started (c .before .before .before .before .before .before .before) .0 in (sound-formed b e, sound-place b e, c .place .ensures .1)
+    let b = c .before .before .before .before .before .before .before .before .before .before .before .before .before .before .before .before .args .t .now in
+    let e = started (c .before .before .before .before .before .before .before .before) .0 in (sound-formed b e, sound-place b e, c .place .ensures .1)
 
 answer-requires : tie.Need-answer-requires
 answer-requires c κs =
-    let r = c .before .before .before .before .before .before .before .before .before .before in
+    let r = c .before .before .before .before .before .before .before .before .before .before .before in
     let len = c .before .before .before .before .before .before .before .before .before .reply-length .ensures in
-    (formed-written (c .before .before .before .before .move-on .ensures .0), r .before .judge .ensures, r .if3 .left, omega (arith, len, c .before .before .before .before .before .before .before .before .if4 .left))
+    (formed-written (c .before .before .before .before .move-on .ensures .0), r .before .parse .ensures .holds (r .if3 .left), omega (arith, len, c .before .before .before .before .before .before .before .before .if4 .left))
 
-cast-t21 : tie.Need-cast-t21
-cast-t21 c = search needs
+cast-t22 : tie.Need-cast-t22
+cast-t22 c = search needs
 
 same-length-6 : tie.Need-same-length-6
 same-length-6 c = search needs
@@ -127,11 +126,11 @@ same-length-7 c = search needs
 
 returns-6 : tie.Need-returns-6
 returns-6 c =
-    let r = c .before .before .before .before .before .before .before .before .before .before .before .before .before .before .before in
+    let r = c .before .before .before .before .before .before .before .before .before .before .before .before .before .before .before .before in
     let p = started (r .before .before) in
     let len = c .before .before .before .before .before .before .before .before .before .before .before .before .before .before .reply-length .ensures in
     let room = ladder.has-room _ _ _ len (c .before .before .before .before .before .before .before .before .before .before .before .before .before .if4 .left) (c .before .before .before .before .before .before .before .before .before .before .before .before .if5 .left) in
-    serve-answered _ _ _ _ _ _ _ _ (p .0) (p .1) (judged r) room len (c .before .before .before .before .before .before .before .before .before .before .place .ensures .0) (c .before .before .before .before .before .before .before .before .before .move-on .ensures .0) (c .before .before .before .before .answer .ensures)
+    serve-answered _ _ _ _ _ _ _ _ (p .0) (p .1) (parsed r) room len (c .before .before .before .before .before .before .before .before .before .before .place .ensures .0) (c .before .before .before .before .before .before .before .before .before .move-on .ensures .0) (c .before .before .before .before .answer .ensures)
 
 pub llq-serve-spec : {M : Type 1} → statement M
 llq-serve-spec =
@@ -145,7 +144,7 @@ llq-serve-spec =
     refuse-requires-2
     same-length-2
     returns-2
-    judge-requires
+    parse-requires
     refuse-requires-3
     same-length-3
     returns-3
@@ -159,7 +158,7 @@ llq-serve-spec =
     place-requires
     move-on-requires
     answer-requires
-    cast-t21
+    cast-t22
     same-length-6
     same-length-7
     returns-6)

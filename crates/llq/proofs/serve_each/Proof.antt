@@ -13,32 +13,27 @@ use Rattle.entries.specs.Reads.{senderOf}
 use Rattle.table.specs.Written.{Written}
 use Rattle.llq.specs.Answer.{tableFrom, outcomeFrom}
 use Rattle.llq.proofs.ReplyLaws.{options-none}
-use Rattle.llq.proofs.FoundLaws.{question-is, question-len}
 use Rattle.llq.proofs.AnswerLaws.{formed-written, written-none, written-next, reply-next}
 use Rattle.llq.proofs.serve_each.Statement.{statement}
 use Rattle.llq.proofs.serve_each.Tie as tie
 use Rattle.llq.proofs.serve_each.Reads as reads
 use Rattle.llq.proofs.serve_each.Lts as lts
 use Rattle.llq.proofs.serve_one.Reads as serve-one-reads
-use Rattle.query.proofs.read_questions.Reads as read-questions-reads
 
 abbrev Inv-loop : tie.InvT-loop
-Inv-loop t₀ reply₀ d s r n end options questions at i₀ t reply i =
+Inv-loop t₀ reply₀ d s r n end questions options at i₀ t reply i =
     (i ≤ n) × (length reply ≡ length reply₀) × (length t ≡ length t₀) × Written t (tableFrom (senderOf s) r d (readTable t₀) i)
     × (reply ≡ splice at (22 * i) (flat optionBytes (upTo i (outcomeFrom (senderOf s) r d (readTable t₀)))) reply₀)
 
 abbrev μ-loop : tie.MeasureT-loop
-μ-loop t₀ reply₀ d s r n end options questions at i₀ t reply i = n - i
-
-read-questions-requires : tie.Need-read-questions-requires Inv-loop μ-loop
-read-questions-requires c κs = let z = c .before .before .before in (z .pre .1, z .pre .2)
+μ-loop t₀ reply₀ d s r n end questions options at i₀ t reply i = n - i
 
 add-at : tie.Need-add-at Inv-loop μ-loop
 add-at c = search needs
 
 loop-holds : tie.Need-loop-holds Inv-loop μ-loop
 loop-holds c =
-    let z = c .before .before .before .before in
+    let z = c .before .before .before in
     let a = z .args in
     let d = now (a .d) in (
       search needs,
@@ -69,8 +64,8 @@ array-copy-out-serve-one-2 c = search needs
 serve-one-requires : tie.Need-serve-one-requires Inv-loop μ-loop
 serve-one-requires c κs =
     let l = c .before .before .before .before .before .loop in
-    let z = c .before .before .before .before .before .before .before .before .before .before in
-    (formed-written (l .inv .3), question-len (now (z .args .d)) _ (z .pre .2) _ (c .before .before .before .before .before .before .read-questions .ensures) (l .i) _ (omega arith), omega (arith, z))
+    let z = c .before .before .before .before .before .before .before .before .before in
+    let q = z .pre .2 (l .i) _ (omega arith) in (formed-written (l .inv .3), q .1, q .2, omega (arith, z))
 
 add-i : tie.Need-add-i Inv-loop μ-loop
 add-i c = search needs
@@ -81,12 +76,12 @@ loop-less c = search needs
 loop-again : tie.Need-loop-again Inv-loop μ-loop
 loop-again c =
     let l = c .before .before .before .before .before .before .before .before .before .before .loop in
-    let z = c .before .before .before .before .before .before .before .before .before .before .before .before .before .before .before in
+    let z = c .before .before .before .before .before .before .before .before .before .before .before .before .before .before in
     let a = z .args in
     let s = senderOf (a .s) in
     let d = now (a .d) in
     let x = c .before .before .before .before .serve-one .ensures in
-    let f = question-is d _ (z .pre .2) _ (c .before .before .before .before .before .before .before .before .before .before .before .read-questions .ensures) (l .i) _ (omega arith) in
+    let f = z .pre .2 (l .i) _ (omega arith) .0 in
     let g = z .pre .3 (l .i) _ (omega arith) in (
       omega arith,
       search needs,
@@ -103,7 +98,7 @@ same-length-2 c = search needs
 
 returns : tie.Need-returns Inv-loop μ-loop
 returns c =
-    let e : c .before .loop .i ≡ c .before .before .before .before .before .before .args .n = omega arith in
+    let e : c .before .loop .i ≡ c .before .before .before .before .before .args .n = omega arith in
     (rw e at (c .before .loop .inv .3), rw e at (c .before .loop .inv .4))
 
 pub serve-each-spec : {M : Type 1} → statement M
@@ -112,7 +107,6 @@ serve-each-spec =
     (tie.spec
     Inv-loop
     μ-loop
-    read-questions-requires
     add-at
     loop-holds
     mul-serve-one

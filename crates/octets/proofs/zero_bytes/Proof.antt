@@ -1,26 +1,27 @@
 -- `octets::zero_bytes` meets its contract: the `or` of the bytes passed is zero exactly if they are. Assumes nothing.
-use Prim.Native.Nat.{_-_, _≤_}
-use mathlib.Core.Path.{_≡_}
+use Prim.Native.Nat.{_+_, _-_, _≤_}
+use mathlib.Core.Path.{_≡_, refl}
 use native.Mathlib.Omega.{arith}
 use borrow.Author.Needs.{needs}
 use lib.Dec.{eqb}
 use Rattle.model.specs.Lists.{same}
 use Rattle.model.specs.Numbers.{part}
-use Rattle.octets.proofs.OrLaws.{or-none, or-next}
-use Rattle.octets.proofs.Laws.{noughts}
+use Rattle.octets.proofs.Cover.{or-next}
+use Rattle.octets.proofs.Laws.{zeroBytes, zero-both, zero-one}
 use Rattle.octets.proofs.zero_bytes.Statement.{statement}
 use Rattle.octets.proofs.zero_bytes.Tie as tie
 use Rattle.octets.proofs.zero_bytes.Reads as reads
 use Rattle.octets.proofs.zero_bytes.Lts as lts
 
 abbrev Inv-loop : tie.InvT-loop
-Inv-loop s at n x₀ i₀ x i = (i ≤ n) × (eqb x 0 ≡ same (noughts i) (part at i s))
+Inv-loop s at n x₀ i₀ x i = (i ≤ n) × (eqb x 0 ≡ zeroBytes s at i)
 
 abbrev μ-loop : tie.MeasureT-loop
 μ-loop s at n x₀ i₀ x i = n - i
 
 loop-holds : tie.Need-loop-holds Inv-loop μ-loop
-loop-holds c = (search needs, or-none _ _)
+unfolding same part
+loop-holds c = (search needs, refl)
 
 add-x : tie.Need-add-x Inv-loop μ-loop
 add-x c = search needs
@@ -37,7 +38,9 @@ loop-less c = search needs
 loop-again : tie.Need-loop-again Inv-loop μ-loop
 loop-again c =
     let l = c .before .before .loop in
-    (omega arith, or-next _ _ (l .i) (l .x) (omega arith) (l .inv .1))
+    let a = c .before .before .before .args in
+    let s = a .s .now in
+    (omega arith, or-next (zeroBytes s) _ (zero-both s) (a .at) (l .i) (l .x) _ (omega arith) (l .inv .1) (zero-one s (a .at + l .i) (omega arith)))
 
 returns : tie.Need-returns Inv-loop μ-loop
 returns c =

@@ -1,6 +1,15 @@
 -- `options::grant` meets its contract. Assumes nothing.
 use native.Mathlib.Omega.{arith}
+use mathlib.Core.Path.{_≡_}
+use mathlib.Core.List.{map}
+use lib.ListN.{length}
 use borrow.Author.Needs.{needs}
+use Rattle.model.specs.Numbers.{part}
+use Rattle.model.specs.Names.{fold}
+use Rattle.model.proofs.NumberLaws.{bytes-part}
+use Rattle.model.proofs.NameLaws.{bytes-fold}
+use Rattle.table.proofs.EntryLaws.{folded-length}
+use Rattle.wire.specs.Records.{questionOf}
 use Rattle.options.proofs.OptionLaws as law
 use Rattle.options.proofs.grant.Statement.{statement}
 use Rattle.options.proofs.grant.Tie as tie
@@ -31,13 +40,13 @@ same-length c = search needs
 returns : tie.Need-returns
 returns c =
     let a = c .before .before .before .before .before .before .before .before .before .args in
-    law.grant-none (a .t .now) (λ j. omega (arith, c .before .before .before .before .before .before .before .before .slice-known .given j)) (c .before .before .before .before .before .before .before .before .before .pre .0) (a .n) (c .before .before .before .before .before .before .before .before .before .pre .1) (a .s) (a .r) (a .name .now) (a .qtype) (a .qclass) (a .o) (c .before .before .before .before .before .fresh-number .ensures) (c .before .before .before .before .granted-lease .ensures) (c .before .before .find-free .ensures) (c .before .if1 .taken) _ (c .served .ensures)
+    law.grant-none (a .t .now) (λ j. omega (arith, c .before .before .before .before .before .before .before .before .slice-known .given j)) (c .before .before .before .before .before .before .before .before .before .pre .0) (a .n) (c .before .before .before .before .before .before .before .before .before .pre .1) (a .s) (a .r) (questionOf (a .d .now) (a .q)) (a .o) (c .before .before .before .before .before .fresh-number .ensures) (c .before .before .before .before .granted-lease .ensures) (c .before .before .find-free .ensures) (c .before .if1 .taken) _ (c .served .ensures)
 
 get32-requires : tie.Need-get32-requires
 get32-requires c κs = search needs
 
-cast-t26 : tie.Need-cast-t26
-cast-t26 c = search needs
+cast-t24 : tie.Need-cast-t24
+cast-t24 c = search needs
 
 put-entry-requires : tie.Need-put-entry-requires
 put-entry-requires c κs = search needs
@@ -50,19 +59,21 @@ same-length-2 c = search needs
 
 returns-2 : tie.Need-returns-2
 returns-2 c =
-    let a = c .before .before .before .before .before .before .before .before .before .before .before .before .before .before .before .args in
-    let z = c .before .before .before .before .before .before .before .before .before .before .before .before .before .before .before in
-    law.grant-written (a .t .now) (λ j. omega (arith, c .before .before .before .before .before .before .before .before .before .before .before .before .before .before .slice-known .given j)) (c .before .before .before .before .before .before .before .before .before .before .before .before .before .before .before .pre .0) (a .n) (c .before .before .before .before .before .before .before .before .before .before .before .before .before .before .before .pre .1) (a .s) (a .r) (a .name .now) (a .qtype) (a .qclass) (a .o) (c .before .before .before .before .before .before .before .before .before .before .before .fresh-number .ensures) (c .before .before .before .before .before .before .before .before .before .before .granted-lease .ensures) (c .before .before .before .before .before .before .before .before .find-free .ensures) _ _ (c .before .before .before .before .before .get32 .ensures) (c .before .before .before .before .before .before .before .if1 .left)
+    let a = c .before .before .before .before .before .before .before .before .before .before .before .before .before .before .before .before .args in
+    let z = c .before .before .before .before .before .before .before .before .before .before .before .before .before .before .before .before in
+    let w = part (a .q .start) (a .q .len) (a .d .now) in
+    let n : length (map fold w) ≡ a .q .len = folded-length (a .d .now) (a .q .start) (a .q .len) (z .pre .2) in
+    law.grant-written (a .t .now) (λ j. omega (arith, c .before .before .before .before .before .before .before .before .before .before .before .before .before .before .before .slice-known .given j)) (c .before .before .before .before .before .before .before .before .before .before .before .before .before .before .before .before .pre .0) (a .n) (c .before .before .before .before .before .before .before .before .before .before .before .before .before .before .before .before .pre .1) (a .s) (a .r) (questionOf (a .d .now) (a .q)) (a .o) (c .before .before .before .before .before .before .before .before .before .before .before .before .fresh-number .ensures) (c .before .before .before .before .before .before .before .before .before .before .before .granted-lease .ensures) (c .before .before .before .before .before .before .before .before .before .find-free .ensures) _ _ (c .before .before .before .before .before .before .get32 .ensures) (c .before .before .before .before .before .before .before .before .if1 .left)
     (record {
       address = law.address-fits (a .s .high) (a .s .low) (omega (arith, z)) (omega (arith, z));
       port = omega (arith, z);
-      number = omega (arith, c .before .before .before .before .before .before .before .before .before .before .before);
-      lease = omega (arith, c .before .before .before .before .before .before .before .before .before .before);
-      stamp = omega (arith, c .before .before .before .before .before);
+      number = omega (arith, c .before .before .before .before .before .before .before .before .before .before .before .before);
+      lease = omega (arith, c .before .before .before .before .before .before .before .before .before .before .before);
+      stamp = omega (arith, c .before .before .before .before .before .before);
       qtype = omega (arith, z);
       qclass = omega (arith, z);
-      size = omega (arith, z);
-      bytes = λ j. omega (arith, c .before .before .before .before .before .before .before .before .before .before .before .before .before .shared-slice-known .given j);
+      size = omega (arith, n, z .pre .3);
+      bytes = bytes-fold w (bytes-part (a .q .start) (a .q .len) (a .d .now) (λ j. omega (arith, c .before .before .before .before .before .before .before .before .before .before .before .before .before .before .shared-slice-known .given j)));
     })
     _ (c .before .before .before .put-entry .ensures) _ (c .served2 .ensures)
 
@@ -77,7 +88,7 @@ grant-spec =
     same-length
     returns
     get32-requires
-    cast-t26
+    cast-t24
     put-entry-requires
     served-requires-2
     same-length-2

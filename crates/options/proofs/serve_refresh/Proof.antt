@@ -1,12 +1,12 @@
 -- `options::serve_refresh` meets its contract. Assumes nothing.
 use native.Mathlib.Omega.{arith}
 use borrow.Author.Needs.{needs}
+use Rattle.wire.specs.Records.{questionOf}
 use Rattle.options.proofs.OptionLaws as law
 use Rattle.options.proofs.serve_refresh.Statement.{statement}
 use Rattle.options.proofs.serve_refresh.Tie as tie
 use Rattle.options.proofs.serve_refresh.Reads as reads
 use Rattle.options.proofs.serve_refresh.Lts as lts
-use Rattle.entries.proofs.entry_at.Reads as entry-at-reads
 use Rattle.entries.proofs.find_refreshed.Reads as find-refreshed-reads
 use Rattle.octets.proofs.get32.Reads as get32-reads
 use Rattle.options.proofs.granted_lease.Reads as granted-lease-reads
@@ -26,10 +26,7 @@ same-length c = search needs
 returns : tie.Need-returns
 returns c =
     let a = c .before .before .before .before .before .before .before .args in
-    law.refresh-none (a .t .now) (λ j. omega (arith, c .before .before .before .before .before .before .slice-known .given j)) (c .before .before .before .before .before .before .before .pre .0) (a .n) (c .before .before .before .before .before .before .before .pre .1) (a .s) 0 (a .name .now) (a .qtype) (a .qclass) (a .o) (c .before .before .find-refreshed .ensures) (c .before .if1 .taken) _ (c .served .ensures)
-
-entry-at-requires : tie.Need-entry-at-requires
-entry-at-requires c κs = search needs
+    law.refresh-none (a .t .now) (λ j. omega (arith, c .before .before .before .before .before .before .slice-known .given j)) (c .before .before .before .before .before .before .before .pre .0) (a .n) (c .before .before .before .before .before .before .before .pre .1) (a .s) 0 (questionOf (a .d .now) (a .q)) (a .o) (c .before .before .find-refreshed .ensures) (c .before .if1 .taken) _ (c .served .ensures)
 
 end-entry-requires : tie.Need-end-entry-requires
 end-entry-requires c κs = search needs
@@ -42,8 +39,8 @@ same-length-2 c = search needs
 
 returns-2 : tie.Need-returns-2
 returns-2 c =
-    let a = c .before .before .before .before .before .before .before .before .before .before .before .before .before .before .before .before .args in
-    law.refresh-end (a .t .now) (λ j. omega (arith, c .before .before .before .before .before .before .before .before .before .before .before .before .before .before .before .slice-known .given j)) (c .before .before .before .before .before .before .before .before .before .before .before .before .before .before .before .before .pre .0) (a .n) (c .before .before .before .before .before .before .before .before .before .before .before .before .before .before .before .before .pre .1) (a .s) 0 (a .name .now) (a .qtype) (a .qclass) (a .o) (c .before .before .before .before .before .before .before .before .before .before .before .find-refreshed .ensures) (c .before .before .before .before .before .before .before .before .before .before .if1 .left) _ (c .before .before .before .before .before .before .before .before .entry-at .ensures) (c .before .before .before .before .before .if2 .taken) _ (c .before .before .before .end-entry .ensures) _ (c .served2 .ensures)
+    let a = c .before .before .before .before .before .before .before .before .before .before .before .before .before .args in
+    law.refresh-end (a .t .now) (λ j. omega (arith, c .before .before .before .before .before .before .before .before .before .before .before .before .slice-known .given j)) (c .before .before .before .before .before .before .before .before .before .before .before .before .before .pre .0) (a .n) (c .before .before .before .before .before .before .before .before .before .before .before .before .before .pre .1) (a .s) 0 (questionOf (a .d .now) (a .q)) (a .o) (c .before .before .before .before .before .before .before .before .find-refreshed .ensures) (c .before .before .before .before .before .before .before .if1 .left) (c .before .before .before .before .before .if2 .taken) _ (c .before .before .before .end-entry .ensures) _ (c .served2 .ensures)
 
 granted-lease-requires : tie.Need-granted-lease-requires
 granted-lease-requires c κs = search needs
@@ -62,8 +59,8 @@ same-length-3 c = search needs
 
 returns-3 : tie.Need-returns-3
 returns-3 c =
-    let a = c .before .before .before .before .before .before .before .before .before .before .before .before .before .before .before .before .before .before .before .args in
-    law.refresh-renew (a .t .now) (λ j. omega (arith, c .before .before .before .before .before .before .before .before .before .before .before .before .before .before .before .before .before .before .slice-known .given j)) (c .before .before .before .before .before .before .before .before .before .before .before .before .before .before .before .before .before .before .before .pre .0) (a .n) (c .before .before .before .before .before .before .before .before .before .before .before .before .before .before .before .before .before .before .before .pre .1) (a .s) 0 (a .name .now) (a .qtype) (a .qclass) (a .o) (c .before .before .before .before .before .before .before .before .before .before .before .before .before .before .find-refreshed .ensures) (c .before .before .before .before .before .before .before .before .before .before .before .before .before .if1 .left) _ (c .before .before .before .before .before .before .before .before .before .before .before .entry-at .ensures) (c .before .before .before .before .before .before .before .before .if2 .left) _ _ (c .before .before .before .before .before .before .before .granted-lease .ensures)
+    let a = c .before .before .before .before .before .before .before .before .before .before .before .before .before .before .before .before .args in
+    law.refresh-renew (a .t .now) (λ j. omega (arith, c .before .before .before .before .before .before .before .before .before .before .before .before .before .before .before .slice-known .given j)) (c .before .before .before .before .before .before .before .before .before .before .before .before .before .before .before .before .pre .0) (a .n) (c .before .before .before .before .before .before .before .before .before .before .before .before .before .before .before .before .pre .1) (a .s) 0 (questionOf (a .d .now) (a .q)) (a .o) (c .before .before .before .before .before .before .before .before .before .before .before .find-refreshed .ensures) (c .before .before .before .before .before .before .before .before .before .before .if1 .left) (c .before .before .before .before .before .before .before .before .if2 .left) _ _ (c .before .before .before .before .before .before .before .granted-lease .ensures)
     (omega (arith, c .before .before .before .before .before .before .before)) (c .before .before .before .before .get32 .ensures) _ (c .before .before .before .renew-at .ensures) _ (c .served3 .ensures)
 
 pub serve-refresh-spec : {M : Type 1} → statement M
@@ -74,7 +71,6 @@ serve-refresh-spec =
     served-requires
     same-length
     returns
-    entry-at-requires
     end-entry-requires
     served-requires-2
     same-length-2

@@ -2,6 +2,7 @@
 use native.Mathlib.Omega.{arith}
 use mathlib.Core.Path.{sym, _∙_}
 use borrow.Author.Needs.{needs}
+use Rattle.wire.specs.Records.{questionOf}
 use Rattle.options.proofs.OptionLaws as law
 use Rattle.options.proofs.serve_setup.Statement.{statement}
 use Rattle.options.proofs.serve_setup.Tie as tie
@@ -28,7 +29,7 @@ same-length c = search needs
 returns : tie.Need-returns
 returns c =
     let a = c .before .before .before .before .before .before .before .before .before .args in
-    law.setup-found (a .t .now) (λ j. omega (arith, c .before .before .before .before .before .before .before .before .slice-known .given j)) (c .before .before .before .before .before .before .before .before .before .pre .0) (a .n) (c .before .before .before .before .before .before .before .before .before .pre .1) (a .s) (a .r) (a .name .now) (a .qtype) (a .qclass) (a .o) (c .before .before .before .before .before .find-asked .ensures) (c .before .before .before .before .if1 .taken) _ (c .before .before .entry-at .ensures) _ (c .served .ensures)
+    law.setup-found (a .t .now) (λ j. omega (arith, c .before .before .before .before .before .before .before .before .slice-known .given j)) (c .before .before .before .before .before .before .before .before .before .pre .0) (a .n) (c .before .before .before .before .before .before .before .before .before .pre .1) (a .s) (a .r) (questionOf (a .d .now) (a .q)) (a .o) (c .before .before .before .before .before .find-asked .ensures) (c .before .before .before .before .if1 .taken) _ (c .before .before .entry-at .ensures) _ (c .served .ensures)
 
 is-full-requires : tie.Need-is-full-requires
 is-full-requires c κs = search needs
@@ -42,7 +43,7 @@ same-length-2 c = search needs
 returns-2 : tie.Need-returns-2
 returns-2 c =
     let a = c .before .before .before .before .before .before .before .before .before .args in
-    law.setup-full (a .t .now) (λ j. omega (arith, c .before .before .before .before .before .before .before .before .slice-known .given j)) (c .before .before .before .before .before .before .before .before .before .pre .0) (a .n) (c .before .before .before .before .before .before .before .before .before .pre .1) (a .s) (a .r) (a .name .now) (a .qtype) (a .qclass) (a .o) (c .before .before .before .before .before .find-asked .ensures) (c .before .before .before .before .if1 .left) (sym (c .before .before .is-full .ensures) ∙ c .before .if2 .taken) _ (c .served2 .ensures)
+    law.setup-full (a .t .now) (λ j. omega (arith, c .before .before .before .before .before .before .before .before .slice-known .given j)) (c .before .before .before .before .before .before .before .before .before .pre .0) (a .n) (c .before .before .before .before .before .before .before .before .before .pre .1) (a .s) (a .r) (questionOf (a .d .now) (a .q)) (a .o) (c .before .before .before .before .before .find-asked .ensures) (c .before .before .before .before .if1 .left) (sym (c .before .before .is-full .ensures) ∙ c .before .if2 .taken) _ (c .served2 .ensures)
 
 grant-requires : tie.Need-grant-requires
 grant-requires c κs = search needs
@@ -53,7 +54,7 @@ same-length-3 c = search needs
 returns-3 : tie.Need-returns-3
 returns-3 c =
     let a = c .before .before .before .before .before .before .before .before .before .before .before .before .args in
-    law.setup-grant (a .t .now) (λ j. omega (arith, c .before .before .before .before .before .before .before .before .before .before .before .slice-known .given j)) (c .before .before .before .before .before .before .before .before .before .before .before .before .pre .0) (a .n) (c .before .before .before .before .before .before .before .before .before .before .before .before .pre .1) (a .s) (a .r) (a .name .now) (a .qtype) (a .qclass) (a .o) (c .before .before .before .before .before .before .before .before .find-asked .ensures) (c .before .before .before .before .before .before .before .if1 .left) (sym (c .before .before .before .before .before .is-full .ensures) ∙ c .before .before .before .before .if2 .left) _ _ (c .before .before .grant .ensures)
+    law.setup-grant (a .t .now) (λ j. omega (arith, c .before .before .before .before .before .before .before .before .before .before .before .slice-known .given j)) (c .before .before .before .before .before .before .before .before .before .before .before .before .pre .0) (a .n) (c .before .before .before .before .before .before .before .before .before .before .before .before .pre .1) (a .s) (a .r) (questionOf (a .d .now) (a .q)) (a .o) (c .before .before .before .before .before .before .before .before .find-asked .ensures) (c .before .before .before .before .before .before .before .if1 .left) (sym (c .before .before .before .before .before .is-full .ensures) ∙ c .before .before .before .before .if2 .left) _ _ (c .before .before .grant .ensures)
 
 pub serve-setup-spec : {M : Type 1} → statement M
 serve-setup-spec =

@@ -12,7 +12,7 @@ use Rattle.record.proofs.valid_entry.Lts as lts
 use Rattle.clock.proofs.age.Reads as age-reads
 use Rattle.octets.proofs.get32.Reads as get32-reads
 use Rattle.octets.proofs.get64.Reads as get64-reads
-use Rattle.record.proofs.lower_name.Reads as lower-name-reads
+use Rattle.names.proofs.lower_name.Reads as lower-name-reads
 
 add-get64 : tie.Need-add-get64
 add-get64 c = search needs

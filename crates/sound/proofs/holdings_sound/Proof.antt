@@ -1,16 +1,17 @@
 -- `sound::holdings_sound` meets its contract: one rule after the other. Assumes nothing.
 use mathlib.Core.Path.{sym, _∙_}
-use borrow.Author.Needs.{needs}
 use borrow.Author.Tests.{not-true, not-false}
-use Rattle.layout.proofs.SoundLaws.{holdings-is}
+use Rattle.sound.proofs.FitLaws.{holdings-is}
+use borrow.Author.Needs.{needs}
 use Rattle.sound.proofs.holdings_sound.Statement.{statement}
 use Rattle.sound.proofs.holdings_sound.Tie as tie
 use Rattle.sound.proofs.holdings_sound.Reads as reads
 use Rattle.sound.proofs.holdings_sound.Lts as lts
-use Rattle.sound.proofs.entries_fit.Reads as entries-fit-reads
-use Rattle.sound.proofs.entries_valid.Reads as entries-valid-reads
 use Rattle.holdings.proofs.held.Reads as held-reads
 use Rattle.holdings.proofs.reserve_of.Reads as reserve-of-reads
+use Rattle.sound.proofs.entries_valid.Reads as entries-valid-reads
+use Rattle.sound.proofs.holders_fit.Reads as holders-fit-reads
+use Rattle.sound.proofs.numbers_apart.Reads as numbers-apart-reads
 
 entries-valid-requires : tie.Need-entries-valid-requires
 entries-valid-requires c κs = search needs
@@ -18,11 +19,28 @@ entries-valid-requires c κs = search needs
 returns : tie.Need-returns
 returns c = rw (holdings-is, sym (c .before .entries-valid .ensures) ∙ not-true _ (c .if1 .taken))
 
-entries-fit-requires : tie.Need-entries-fit-requires
-entries-fit-requires c κs = search needs
+numbers-apart-requires : tie.Need-numbers-apart-requires
+numbers-apart-requires c κs = search needs
 
 returns-2 : tie.Need-returns-2
-returns-2 c = rw (holdings-is, sym (c .before .before .before .entries-valid .ensures) ∙ not-false _ (c .before .before .if1 .left), sym (c .before .entries-fit .ensures) ∙ not-true _ (c .if2 .taken))
+returns-2 c =
+    rw (
+      holdings-is,
+      sym (c .before .before .before .entries-valid .ensures) ∙ not-false _ (c .before .before .if1 .left),
+      sym (c .before .numbers-apart .ensures) ∙ not-true _ (c .if2 .taken),
+    )
+
+holders-fit-requires : tie.Need-holders-fit-requires
+holders-fit-requires c κs = search needs
+
+returns-3 : tie.Need-returns-3
+returns-3 c =
+    rw (
+      holdings-is,
+      sym (c .before .before .before .before .before .entries-valid .ensures) ∙ not-false _ (c .before .before .before .before .if1 .left),
+      sym (c .before .before .before .numbers-apart .ensures) ∙ not-false _ (c .before .before .if2 .left),
+      sym (c .before .holders-fit .ensures) ∙ not-true _ (c .if3 .taken),
+    )
 
 reserve-of-requires : tie.Need-reserve-of-requires
 reserve-of-requires c κs = search needs
@@ -33,12 +51,13 @@ held-requires c κs = search needs
 add-result : tie.Need-add-result
 add-result c = search needs
 
-returns-3 : tie.Need-returns-3
-returns-3 c =
+returns-4 : tie.Need-returns-4
+returns-4 c =
     rw (
       holdings-is,
-      sym (c .before .before .before .before .before .entries-valid .ensures) ∙ not-false _ (c .before .before .before .before .if1 .left),
-      sym (c .before .before .before .entries-fit .ensures) ∙ not-false _ (c .before .before .if2 .left),
+      sym (c .before .before .before .before .before .before .before .entries-valid .ensures) ∙ not-false _ (c .before .before .before .before .before .before .if1 .left),
+      sym (c .before .before .before .before .before .numbers-apart .ensures) ∙ not-false _ (c .before .before .before .before .if2 .left),
+      sym (c .before .before .before .holders-fit .ensures) ∙ not-false _ (c .before .before .if3 .left),
       c .before .reserve-of .ensures .1,
       c .held .ensures .1,
     )
@@ -49,9 +68,11 @@ holdings-sound-spec =
     (tie.spec
     entries-valid-requires
     returns
-    entries-fit-requires
+    numbers-apart-requires
     returns-2
+    holders-fit-requires
+    returns-3
     reserve-of-requires
     held-requires
     add-result
-    returns-3)
+    returns-4)

@@ -1,70 +1,70 @@
--- `sound::sound` meets its contract: lengths, then shape, then rules. Assumes nothing.
+-- `sound::sound` meets its contract: the length, then shape, then rules. Assumes nothing.
 use mathlib.Core.Path.{sym, _∙_}
 use native.Mathlib.Omega.{arith}
 use borrow.Author.Needs.{needs}
 use borrow.Author.Tests.{not-true, not-false}
 use lib.ListN.{length}
-use Rattle.model.specs.Table.{slotsIn}
+use Rattle.model.proofs.ListLaws.{never}
+use Rattle.layout.proofs.LengthLaws.{length-right, right-length}
 use Rattle.layout.proofs.SoundLaws.{sound-is, not-sound}
 use Rattle.sound.proofs.sound.Statement.{statement}
 use Rattle.sound.proofs.sound.Tie as tie
 use Rattle.sound.proofs.sound.Reads as reads
 use Rattle.sound.proofs.sound.Lts as lts
+use Rattle.layout.proofs.slots.Reads as slots-reads
+use Rattle.layout.proofs.table_length.Reads as table-length-reads
 use Rattle.roster.proofs.listed_lines.Reads as listed-lines-reads
 use Rattle.sound.proofs.rules_sound.Reads as rules-sound-reads
 use Rattle.sound.proofs.table_shape.Reads as table-shape-reads
 
+slots-requires : tie.Need-slots-requires
+slots-requires c κs = search needs
+
+table-length-requires : tie.Need-table-length-requires
+table-length-requires c κs = search needs
+
 returns : tie.Need-returns
-returns c = not-sound _ (λ i. omega (arith, c .before .shared-slice-known .given i)) (λ e l h. omega arith)
-
-returns-2 : tie.Need-returns-2
-returns-2 c = not-sound _ (λ i. omega (arith, c .before .before .shared-slice-known .given i)) (λ e l h. omega arith)
-
-sub-n : tie.Need-sub-n
-sub-n c = search needs
-
-mul-if3 : tie.Need-mul-if3
-mul-if3 c = search needs
-
-add-if3 : tie.Need-add-if3
-add-if3 c = search needs
-
-returns-3 : tie.Need-returns-3
-returns-3 c = not-sound _ (λ i. omega (arith, c .before .before .before .shared-slice-known .given i)) (λ e l h. c .if3 .taken (sym e))
+returns c =
+    let t = c .before .before .before .before .args .t .now in
+    not-sound t (λ i. omega (arith, c .before .before .before .shared-slice-known .given i))
+    (λ e l h. never (right-length (length t) e l h) (sym (c .before .table-length .ensures) ∙ not-true _ (c .if1 .taken)))
 
 listed-lines-requires : tie.Need-listed-lines-requires
-listed-lines-requires c κs = search needs
+listed-lines-requires c κs = let r = length-right (length (c .before .before .before .before .args .t .now)) (sym (c .before .table-length .ensures) ∙ not-false _ (c .if1 .left)) in omega arith
 
 table-shape-requires : tie.Need-table-shape-requires
-table-shape-requires c κs = search needs
+table-shape-requires c κs =
+    let r = length-right (length (c .before .before .before .before .before .args .t .now)) (sym (c .before .before .table-length .ensures) ∙ not-false _ (c .before .if1 .left)) in
+    (omega arith, omega arith, omega arith, c .listed-lines .ensures .0)
 
-returns-4 : tie.Need-returns-4
-returns-4 c =
+returns-2 : tie.Need-returns-2
+returns-2 c =
+    let r = length-right (length (c .before .before .before .before .before .before .before .args .t .now)) (sym (c .before .before .before .before .table-length .ensures) ∙ not-false _ (c .before .before .before .if1 .left)) in
     let t = c .before .before .before .before .before .before .before .args .t .now in
-    let s = sound-is t (λ i. omega (arith, c .before .before .before .before .before .before .shared-slice-known .given i)) (slotsIn (length t)) (omega arith) (omega arith) (omega arith) in
-    sym (s ∙ (rw (sym (c .before .table-shape .ensures) ∙ not-true _ (c .if4 .taken))))
+    let s = sound-is t (λ i. omega (arith, c .before .before .before .before .before .before .shared-slice-known .given i)) (c .before .before .before .before .before .slots .result) (omega arith) (omega arith) (omega arith) in
+    sym (s ∙ (rw (sym (c .before .table-shape .ensures) ∙ not-true _ (c .if2 .taken))))
 
 rules-sound-requires : tie.Need-rules-sound-requires
-rules-sound-requires c κs = search needs
+rules-sound-requires c κs =
+    let r = length-right (length (c .before .before .before .before .before .before .before .args .t .now)) (sym (c .before .before .before .before .table-length .ensures) ∙ not-false _ (c .before .before .before .if1 .left)) in
+    (omega arith, omega arith, omega arith)
 
-returns-5 : tie.Need-returns-5
-returns-5 c =
+returns-3 : tie.Need-returns-3
+returns-3 c =
+    let r = length-right (length (c .before .before .before .before .before .before .before .before .args .t .now)) (sym (c .before .before .before .before .before .table-length .ensures) ∙ not-false _ (c .before .before .before .before .if1 .left)) in
     let t = c .before .before .before .before .before .before .before .before .args .t .now in
-    let s = sound-is t (λ i. omega (arith, c .before .before .before .before .before .before .before .shared-slice-known .given i)) (slotsIn (length t)) (omega arith) (omega arith) (omega arith) in
-    c .rules-sound .ensures ∙ (rw (c .before .before .before .listed-lines .ensures .0) (sym (s ∙ (rw (sym (c .before .before .table-shape .ensures) ∙ not-false _ (c .before .if4 .left))))))
+    let s = sound-is t (λ i. omega (arith, c .before .before .before .before .before .before .before .shared-slice-known .given i)) (c .before .before .before .before .before .before .slots .result) (omega arith) (omega arith) (omega arith) in
+    c .rules-sound .ensures ∙ (rw (c .before .before .before .listed-lines .ensures .0) (sym (s ∙ (rw (sym (c .before .before .table-shape .ensures) ∙ not-false _ (c .before .if2 .left))))))
 
 pub sound-spec : {M : Type 1} → statement M
 sound-spec =
     tie.close
     (tie.spec
+    slots-requires
+    table-length-requires
     returns
-    returns-2
-    sub-n
-    mul-if3
-    add-if3
-    returns-3
     listed-lines-requires
     table-shape-requires
-    returns-4
+    returns-2
     rules-sound-requires
-    returns-5)
+    returns-3)

@@ -13,7 +13,7 @@ use Rattle.table.proofs.move_on.Tie as tie
 use Rattle.table.proofs.move_on.Reads as reads
 use Rattle.table.proofs.move_on.Lts as lts
 use Rattle.clock.proofs.advanced.Reads as advanced-reads
-use Rattle.entries.proofs.slots.Reads as slots-reads
+use Rattle.layout.proofs.slots.Reads as slots-reads
 use Rattle.octets.proofs.get32.Reads as get32-reads
 use Rattle.table.proofs.free_run_out.Reads as free-run-out-reads
 use Rattle.table.proofs.put_clock.Reads as put-clock-reads

@@ -1,6 +1,9 @@
 -- `table::put_slot` meets its contract. Assumes nothing.
 use native.Mathlib.Omega.{arith}
+use mathlib.Core.List.{map}
 use borrow.Author.Needs.{needs}
+use Rattle.model.specs.Numbers.{part}
+use Rattle.model.specs.Names.{fold}
 use Rattle.table.proofs.EntryLaws as entry
 use Rattle.table.proofs.put_slot.Statement.{statement}
 use Rattle.table.proofs.put_slot.Tie as tie
@@ -25,8 +28,9 @@ same-length c = search needs
 returns : tie.Need-returns
 returns c =
     let z = c .before .before .before .before .before .before .before .before .before .before .before .before .before .before in
+    let e = entry.folded-length (z .args .d .now) (z .args .at) (z .args .e .len) (z .pre .1) in
     rw (c .before .before .put-name .ensures, c .before .before .before .before .before .before .put-what .ensures, c .before .before .before .before .before .before .before .before .before .before .put-who .ensures)
-    (entry.entry-bytes (z .args .s .now) (z .args .e) (z .args .name .now) (omega (arith, z)) (omega (arith, z)))
+    (entry.entry-bytes (z .args .s .now) (z .args .e) (map fold (part (z .args .at) (z .args .e .len) (z .args .d .now))) (omega (arith, z)) (omega (arith, z, e)))
 
 pub put-slot-spec : {M : Type 1} → statement M
 put-slot-spec =

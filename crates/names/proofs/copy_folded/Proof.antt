@@ -1,0 +1,78 @@
+-- `names::copy_folded` meets its contract: what is copied so far is folded. Assumes nothing.
+use Prim.Native.Nat.{_-_, _≤_}
+use native.Mathlib.Omega.{arith}
+use mathlib.Core.Path.{_≡_, refl, sym}
+use mathlib.Core.List.{map}
+use borrow.Author.Needs.{needs}
+use lib.ListN.{length, length-set}
+use Rattle.model.specs.Numbers.{part, splice}
+use Rattle.model.specs.Names.{fold}
+use Rattle.model.proofs.NumberLaws.{splice-none}
+use Rattle.names.proofs.FoldLaws.{fold-step}
+use Rattle.names.proofs.copy_folded.Statement.{statement}
+use Rattle.names.proofs.copy_folded.Tie as tie
+use Rattle.names.proofs.copy_folded.Reads as reads
+use Rattle.names.proofs.copy_folded.Lts as lts
+use Rattle.names.proofs.fold.Reads as fold-reads
+
+abbrev Inv-loop : tie.InvT-loop
+Inv-loop s₀ at d from n i₀ s i = (i ≤ n) × (length s ≡ length s₀) × (s ≡ splice at i (map fold (part from i d)) s₀)
+
+abbrev μ-loop : tie.MeasureT-loop
+μ-loop s₀ at d from n i₀ s i = n - i
+
+loop-holds : tie.Need-loop-holds Inv-loop μ-loop
+unfolding part
+loop-holds c = (omega arith, refl, sym (splice-none _ _))
+
+add-fold : tie.Need-add-fold Inv-loop μ-loop
+add-fold c = search needs
+
+shared-slice-read-fold : tie.Need-shared-slice-read-fold Inv-loop μ-loop
+shared-slice-read-fold c = search needs
+
+fold-requires : tie.Need-fold-requires Inv-loop μ-loop
+fold-requires c κs = search needs
+
+add-s : tie.Need-add-s Inv-loop μ-loop
+add-s c = search needs
+
+slice-write-s : tie.Need-slice-write-s Inv-loop μ-loop
+slice-write-s c = search needs
+
+add-i : tie.Need-add-i Inv-loop μ-loop
+add-i c = search needs
+
+loop-less : tie.Need-loop-less Inv-loop μ-loop
+loop-less c = search needs
+
+loop-again : tie.Need-loop-again Inv-loop μ-loop
+loop-again c =
+    let l = c .before .before .before .loop in
+    (omega arith, simp length-set (omega arith), rw (l .inv .2, c .fold .ensures) (fold-step _ _ (l .i) _ _ (omega arith) (omega arith)))
+
+same-length : tie.Need-same-length Inv-loop μ-loop
+same-length c = search needs
+
+returns : tie.Need-returns Inv-loop μ-loop
+returns c =
+    let e : c .before .loop .i ≡ c .before .before .before .before .args .n = omega arith in
+    rw (← e) (c .before .loop .inv .2)
+
+pub copy-folded-spec : {M : Type 1} → statement M
+copy-folded-spec =
+    tie.close
+    (tie.spec
+    Inv-loop
+    μ-loop
+    loop-holds
+    add-fold
+    shared-slice-read-fold
+    fold-requires
+    add-s
+    slice-write-s
+    add-i
+    loop-less
+    loop-again
+    same-length
+    returns)

@@ -1,0 +1,179 @@
+// The letters of domain names: names compare with A to Z folded to a to z, other bytes as they are; they are stored folded.
+ghost use mathlib.Core.Path.{_≡_};
+ghost use mathlib.Core.Bool.{not};
+ghost use mathlib.Core.List.{map};
+ghost use Prim.Native.Nat.{_+_, _≤_, _<_};
+ghost use lib.ListN.{length};
+ghost use lib.Dec.{eqb};
+ghost use Rattle.model.specs.Lists.{bit, same};
+ghost use Rattle.model.specs.Numbers.{part, splice};
+ghost use Rattle.model.specs.Names.{upper, fold, lowerName};
+ghost use Rattle.names.specs.Labels.{labelled, lowerCase};
+
+// A to Z folded to a to z, other bytes as they are.
+pub fn fold(b: u8) -> u8
+    ensures { λ r. ⌜ r ≡ fold b ⌝ }
+{
+    if b < 65 {
+        return b;
+    }
+    if b > 90 {
+        return b;
+    }
+    b + 32
+}
+
+// 0 where the bytes agree.
+fn differ(x: u8, y: u8) -> u8
+    ensures { λ r. ⌜ r ≡ bit (not (eqb x y)) ⌝ }
+{
+    if x == y {
+        return 0;
+    }
+    1
+}
+
+// The n bytes of t from index a are those of d from index b, folded. The loop has one way out, so that it compiles to vectors.
+fn same_bytes(t: &[u8], a: usize, d: &[u8], b: usize, n: usize) -> bool
+    requires { ⌜ (a + n ≤ length (now t)) × (b + n ≤ length (now d)) ⌝ }
+    ensures { λ r. ⌜ r ≡ same (part a n (now (t .entry))) (map fold (part b n (now (d .entry)))) ⌝ }
+{
+    let mut x: u8 = 0;
+    let mut i: usize = 0;
+    while i < n {
+        x = x | differ(t[a + i], fold(d[b + i]));
+        i += 1;
+    }
+    x == 0
+}
+
+// The same of fewer than 32 bytes: from 16 on the first 16 and the last 16.
+fn same_short(t: &[u8], a: usize, d: &[u8], b: usize, n: usize) -> bool
+    requires { ⌜ (n < 32) × (a + n ≤ length (now t)) × (b + n ≤ length (now d)) ⌝ }
+    ensures { λ r. ⌜ r ≡ same (part a n (now (t .entry))) (map fold (part b n (now (d .entry)))) ⌝ }
+{
+    if n < 16 {
+        return same_bytes(t, a, d, b, n);
+    }
+    if same_bytes(t, a, d, b, 16) {
+        return same_bytes(t, a + (n - 16), d, b + (n - 16), 16);
+    }
+    false
+}
+
+// The stored name of n bytes at a is the sent one at b, folded: in blocks of 32 and then the last 32.
+pub fn same_name(t: &[u8], a: usize, d: &[u8], b: usize, n: usize) -> bool
+    requires { ⌜ (a + n ≤ length (now t)) × (b + n ≤ length (now d)) ⌝ }
+    ensures { λ r. ⌜ r ≡ same (part a n (now (t .entry))) (map fold (part b n (now (d .entry)))) ⌝ }
+{
+    if n < 32 {
+        return same_short(t, a, d, b, n);
+    }
+    if same_bytes(t, a, d, b, 32 * (n / 32)) {
+        return same_bytes(t, a + (n - 32), d, b + (n - 32), 32);
+    }
+    false
+}
+
+// The n bytes of d from index from, folded, copied to s at index at.
+pub fn copy_folded(s: &mut [u8], at: usize, d: &[u8], from: usize, n: usize)
+    requires { ⌜ (at + n ≤ length (now s)) × (from + n ≤ length (now d)) ⌝ }
+    ensures { λ _. ⌜ now (s .exit) ≡ splice at n (map fold (part from n (now (d .entry)))) (now (s .entry)) ⌝ }
+{
+    let mut i: usize = 0;
+    while i < n {
+        s[at + i] = fold(d[from + i]);
+        i += 1;
+    }
+}
+
+// 1 for a letter A to Z.
+fn capital(c: u8) -> u8
+    ensures { λ r. ⌜ r ≡ bit (upper c) ⌝ }
+{
+    if c < 65 {
+        return 0;
+    }
+    if c > 90 {
+        return 0;
+    }
+    1
+}
+
+// None of the n bytes from index at is a letter A to Z. The loop has one way out, so that it compiles to vectors.
+fn lower_bytes(t: &[u8], at: usize, n: usize) -> bool
+    requires { ⌜ at + n ≤ length (now t) ⌝ }
+    ensures { λ r. ⌜ r ≡ lowerCase (part at n (now (t .entry))) ⌝ }
+{
+    let mut x: u8 = 0;
+    let mut i: usize = 0;
+    while i < n {
+        x = x | capital(t[at + i]);
+        i += 1;
+    }
+    x == 0
+}
+
+// The same of fewer than 32 bytes: from 16 on the first 16 and the last 16.
+fn lower_short(t: &[u8], at: usize, n: usize) -> bool
+    requires { ⌜ (n < 32) × (at + n ≤ length (now t)) ⌝ }
+    ensures { λ r. ⌜ r ≡ lowerCase (part at n (now (t .entry))) ⌝ }
+{
+    if n < 16 {
+        return lower_bytes(t, at, n);
+    }
+    if lower_bytes(t, at, 16) {
+        return lower_bytes(t, at + (n - 16), 16);
+    }
+    false
+}
+
+// The same in blocks of 32 and then the last 32.
+fn lower_case(t: &[u8], at: usize, n: usize) -> bool
+    requires { ⌜ at + n ≤ length (now t) ⌝ }
+    ensures { λ r. ⌜ r ≡ lowerCase (part at n (now (t .entry))) ⌝ }
+{
+    if n < 32 {
+        return lower_short(t, at, n);
+    }
+    if lower_bytes(t, at, 32 * (n / 32)) {
+        return lower_bytes(t, at + (n - 32), 32);
+    }
+    false
+}
+
+fn size_of(b: u8) -> usize
+    ensures { λ r. ⌜ (r ≡ b) × (r < 256) ⌝ }
+{
+    b as usize
+}
+
+// Labels, each a length byte of 1 to 63 and as many bytes, and then a zero byte, which is the last of len: a label a turn.
+fn labels(t: &[u8], at: usize, len: usize) -> bool
+    requires { ⌜ (at + len ≤ length (now t)) × (len ≤ 255) ⌝ }
+    ensures { λ r. ⌜ r ≡ labelled 0 (part at len (now (t .entry))) ⌝ }
+{
+    let mut i: usize = 0;
+    while i < len {
+        let b = size_of(t[at + i]);
+        if b == 0 {
+            return i + 1 == len;
+        }
+        if b >= 64 {
+            return false;
+        }
+        i += b + 1;
+    }
+    false
+}
+
+// A stored name: a wire name in lower case that fills its length. A length byte is no letter, so case is looked at apart from labels.
+pub fn lower_name(t: &[u8], at: usize, len: usize) -> bool
+    requires { ⌜ (at + len ≤ length (now t)) × (len ≤ 255) ⌝ }
+    ensures { λ r. ⌜ r ≡ lowerName 0 (part at len (now (t .entry))) ⌝ }
+{
+    if labels(t, at, len) {
+        return lower_case(t, at, len);
+    }
+    false
+}

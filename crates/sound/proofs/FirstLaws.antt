@@ -1,0 +1,90 @@
+-- The table of first slots: for each remainder a slot below which no entry's number, or address, leaves it. Assumes nothing.
+use Prim.Native.Nat.{ℕ, _+_, _%_, _^_, _<_, min}
+use native.Mathlib.Nat.{min-zero}
+use native.Mathlib.Omega.{arith}
+use mathlib.Core.Path.{_≡_, refl, sym, ap, _∙_}
+use mathlib.Core.Bool.{Bool, true, false, not}
+use mathlib.Core.List.{List}
+use mathlib.Core.Logic.{_≢_}
+use lib.ListN.{length, getD, set}
+use lib.Seq.{getD-set-same, getD-set-other}
+use lib.Dec.{eqb, leb}
+use borrow.Author.Tests.{eqb-true, eqb-false, eq-eqb, ne-eqb, leb-true, leb-false}
+use Rattle.model.specs.Lists.{every}
+use Rattle.model.specs.Numbers.{bigEndian, Bytes}
+use Rattle.model.specs.Table.{slotAt}
+use Rattle.model.specs.Rules.{Holding, numbered, heldBy}
+use Rattle.model.proofs.NumberLaws.{big-lt}
+use Rattle.model.proofs.ListLaws.{either, every-nil}
+use Rattle.layout.specs.Shape.{inUse}
+use Rattle.layout.specs.Held.{holdingAt, heldTo, okAt}
+use Rattle.layout.proofs.HeldLaws.{held-none, every-yes}
+use Rattle.layout.proofs.AddressLaws.{address-is}
+use Rattle.sound.proofs.PairLaws.{none-of}
+
+-- what is left of a number, and of the low half of an address, when divided by 251: the same for entries of one number, or of one address
+abbrev pub numberKey : Holding → ℕ
+numberKey h = h .number % 251
+
+abbrev pub addressKey : Holding → ℕ
+addressKey h = h .address % 2 ^ 64 % 251
+
+-- the low half of the address of a record at a
+pub low-half : (s : List ℕ) (a : ℕ) {lo : ℕ} → Bytes s → lo ≡ bigEndian s (a + 9) 8 → bigEndian s (a + 1) 16 % 2 ^ 64 ≡ lo
+low-half s a b e = let h = address-is s a refl refl in let l = big-lt s (a + 9) 8 b in omega arith
+
+-- of the slots below i, none below first[x] has an entry of key x
+abbrev pub Firsts : (Holding → ℕ) → List ℕ → ℕ → List ℕ → Type 0
+Firsts key b i first = (x : ℕ) → every (λ h. not (eqb (key h) x)) (heldTo b (min (getD first x 0) i)) ≡ true
+
+module _ (key : Holding → ℕ) (b : List ℕ) where
+  pub firsts-none : (first : List ℕ) → Firsts key b 0 first
+  firsts-none first x = rw (min-zero (getD first x 0), held-none) (every-nil (λ (h : Holding). not (eqb (key h) x)))
+
+  -- one slot more, g the slot known for x
+  more : (i g x : ℕ) → okAt b (λ h. not (eqb (key h) x)) i ≡ true → every (λ h. not (eqb (key h) x)) (heldTo b (min g i)) ≡ true
+      → every (λ h. not (eqb (key h) x)) (heldTo b (min g (i + 1))) ≡ true
+  more i g x o h = go (leb g i) refl
+    where
+      go : (v : Bool) → leb g i ≡ v → every (λ h. not (eqb (key h) x)) (heldTo b (min g (i + 1))) ≡ true
+      go true e =
+          let p : min g (i + 1) ≡ min g i = omega (arith, leb-true g i e) in
+          rw p h
+      go false e =
+          let p : min g (i + 1) ≡ i + 1 = omega (arith, leb-false g i e) in
+          let q : min g i ≡ i = omega (arith, leb-false g i e) in
+          rw p (every-yes b i (λ h. not (eqb (key h) x)) o (rw q at h))
+
+  pub firsts-free : (i : ℕ) (first : List ℕ) → inUse (getD b (slotAt i) 0) ≡ false → Firsts key b i first → Firsts key b (i + 1) first
+  firsts-free i first u f x = more i (getD first x 0) x (rw u) (f x)
+
+  -- slot i has an entry of key x
+  pub firsts-held : (i x p : ℕ) (first : List ℕ) → x ≡ key (holdingAt b (slotAt i)) → p ≡ min (getD first x 0) i → x < length first
+      → Firsts key b i first → Firsts key b (i + 1) (set first x p)
+  firsts-held i x p first e q l f y = go (eqb y x) refl
+    where
+      go : (v : Bool) → eqb y x ≡ v → every (λ h. not (eqb (key h) y)) (heldTo b (min (getD (set first x p) y 0) (i + 1))) ≡ true
+      go true z =
+          let w : y ≡ x = eqb-true y x z in
+          let m : min p (i + 1) ≡ min (getD first x 0) i = omega arith in
+          rw (w, getD-set-same first x p 0 l, m) (f x)
+      go false z =
+          let w : y ≢ x = eqb-false y x z in
+          let o = ne-eqb (key (holdingAt b (slotAt i))) y (λ d. w (sym d ∙ sym e)) in
+          rw (getD-set-other first x y p 0 w) (more i (getD first y 0) y (rw o (either (λ (v : Bool). v ≡ true) (inUse (getD b (slotAt i) 0)) refl refl)) (f y))
+
+  -- below the slot known for x none passes a test of key x
+  none-below : (i x p : ℕ) (first : List ℕ) (q : Holding → Bool) → p ≡ min (getD first x 0) i → ((h : Holding) → q h ≡ true → key h ≡ x)
+      → Firsts key b i first → every (λ h. not (q h)) (heldTo b p) ≡ true
+  none-below i x p first q e k f = rw e (none-of q (λ h. eqb (key h) x) (heldTo b (min (getD first x 0) i)) (λ h z. eq-eqb (key h) x (k h z)) (f x))
+
+module _ (b : List ℕ) (i p : ℕ) (first : List ℕ) where
+  pub none-numbered : (x : ℕ) → p ≡ min (getD first (x % 251) 0) i → Firsts numberKey b i first → every (λ h. not (numbered x h)) (heldTo b p) ≡ true
+  none-numbered x e f = none-below numberKey b i (x % 251) p first (numbered x) e (λ h z. ap (λ (y : ℕ). y % 251) (eqb-true (h .number) x z)) f
+
+  -- lo: the low half of the address
+  pub none-holds : (a lo : ℕ) → a % 2 ^ 64 ≡ lo → p ≡ min (getD first (lo % 251) 0) i → Firsts addressKey b i first
+      → every (λ h. not (heldBy a h)) (heldTo b p) ≡ true
+  none-holds a lo l e f =
+      none-below addressKey b i (lo % 251) p first (heldBy a) e
+      (λ h z. ap (λ (y : ℕ). y % 2 ^ 64 % 251) (eqb-true (h .address) a z) ∙ ap (λ (y : ℕ). y % 251) l) f

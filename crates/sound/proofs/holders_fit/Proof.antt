@@ -1,0 +1,135 @@
+-- `sound::holders_fit` meets its contract: the entries passed fit together, and below a remainder's first slot none leaves it. Assumes nothing.
+use Prim.Native.Nat.{ℕ, _-_, _%_, _≤_}
+use mathlib.Core.Path.{_≡_, refl, sym, ap, _∙_}
+use mathlib.Core.Bool.{true}
+use mathlib.Core.Logic.{⊎-elim}
+use native.Mathlib.Omega.{arith}
+use borrow.Author.Needs.{needs}
+use borrow.Author.Tests.{not-true, not-false}
+use lib.ListN.{length, replicate, length-set}
+use Rattle.model.specs.Lists.{every, noTwo}
+use Rattle.model.specs.Table.{slotAt, readEntry}
+use Rattle.layout.specs.Shape.{linesTo}
+use Rattle.layout.specs.Held.{holdingAt}
+use Rattle.layout.proofs.HeldLaws.{held-none, held-miss}
+use Rattle.sound.specs.Fits.{fitted}
+use Rattle.sound.proofs.FitLaws.{fits-yes, fits-no}
+use Rattle.sound.proofs.FirstLaws.{Firsts, addressKey, low-half, firsts-none, firsts-free, firsts-held, none-holds}
+use Rattle.sound.proofs.holders_fit.Statement.{statement}
+use Rattle.sound.proofs.holders_fit.Tie as tie
+use Rattle.sound.proofs.holders_fit.Reads as reads
+use Rattle.sound.proofs.holders_fit.Lts as lts
+use Rattle.octets.proofs.get64.Reads as get64-reads
+use Rattle.record.proofs.in_use.Reads as in-use-reads
+use Rattle.sound.proofs.earlier.Reads as earlier-reads
+use Rattle.sound.proofs.holder_fits.Reads as holder-fits-reads
+
+abbrev Inv-loop : tie.InvT-loop
+Inv-loop t n m first₀ i₀ first i = (i ≤ n) × (length first ≡ 251) × (fitted t (linesTo t m) i ≡ true) × Firsts addressKey t i first
+
+abbrev μ-loop : tie.MeasureT-loop
+μ-loop t n m first₀ i₀ first i = n - i
+
+loop-holds : tie.Need-loop-holds Inv-loop μ-loop
+unfolding every noTwo
+loop-holds c = (search needs, refl, rw held-none, firsts-none addressKey _ (replicate 251 64))
+
+mul-a : tie.Need-mul-a Inv-loop μ-loop
+mul-a c = search needs
+
+add-a : tie.Need-add-a Inv-loop μ-loop
+add-a c = search needs
+
+shared-slice-read-in-use : tie.Need-shared-slice-read-in-use Inv-loop μ-loop
+shared-slice-read-in-use c = search needs
+
+in-use-requires : tie.Need-in-use-requires Inv-loop μ-loop
+in-use-requires c κs = search needs
+
+add-get64 : tie.Need-add-get64 Inv-loop μ-loop
+add-get64 c = search needs
+
+get64-requires : tie.Need-get64-requires Inv-loop μ-loop
+get64-requires c κs = search needs
+
+array-read-earlier : tie.Need-array-read-earlier Inv-loop μ-loop
+array-read-earlier c = search needs
+
+earlier-requires : tie.Need-earlier-requires Inv-loop μ-loop
+earlier-requires c κs = search needs
+
+holder-fits-requires : tie.Need-holder-fits-requires Inv-loop μ-loop
+unfolding holdingAt readEntry
+holder-fits-requires c κs =
+    let l = c .before .before .before .before .before .before .loop in
+    let t = c .before .before .before .before .before .before .before .before .args .t .now in
+    let e = low-half t (slotAt (l .i)) (λ i. omega (arith, c .before .before .before .before .before .before .before .shared-slice-known .given i)) (c .before .get64 .ensures) in
+    let b = none-holds t (l .i) _ (l .first) _ (c .before .get64 .result) e (c .earlier .ensures) (l .inv .3) in
+    (omega arith, omega arith, omega arith, omega arith, omega arith, c .before .before .before .before .before .before .before .before .pre .3, c .before .get64 .ensures, b)
+
+returns : tie.Need-returns Inv-loop μ-loop
+returns c =
+    let l = c .before .before .before .before .before .before .before .before .loop in
+    let a = c .before .before .before .before .before .before .before .before .before .before .args in
+    let u = sym (c .before .before .before .before .before .in-use .ensures) ∙ c .before .before .before .before .if1 .taken in
+    sym (fits-no (a .t .now) (l .i) u (linesTo (a .t .now) (a .m)) (a .n) (omega arith) (sym (c .before .holder-fits .ensures) ∙ not-true _ (c .if2 .taken)))
+
+cast-first : tie.Need-cast-first Inv-loop μ-loop
+cast-first c = search needs
+
+array-write-first : tie.Need-array-write-first Inv-loop μ-loop
+array-write-first c = search needs
+
+add-i : tie.Need-add-i Inv-loop μ-loop
+add-i c = search needs
+
+loop-less : tie.Need-loop-less Inv-loop μ-loop
+loop-less c = search needs
+
+loop-again : tie.Need-loop-again Inv-loop μ-loop
+unfolding holdingAt readEntry
+loop-again c =
+    let l = c .before .before .before .before .loop in
+    let a = c .before .before .before .before .before .before .args in
+    let t = a .t .now in
+    let u = sym (c .before .in-use .ensures) in
+    ⊎-elim
+    (λ w.
+    let x = w .1 .result in
+    let e = low-half t (slotAt (l .i)) (λ i. omega (arith, c .before .before .before .before .before .shared-slice-known .given i)) (w .1 .ensures) in
+    let f = firsts-held addressKey t (l .i) (x % 251) _ (l .first) (ap (λ (y : ℕ). y % 251) (sym e)) (w .2 .ensures) (omega arith) (l .inv .3) in
+    let s = fits-yes t (l .i) (u ∙ w .0 .taken) (linesTo t (a .m)) (sym (w .3 .ensures) ∙ not-false _ (w .4 .left)) (l .inv .2) in
+    (omega arith, rw (w .5, length-set) (l .inv .1), s, rw (w .5) f))
+    (λ w.
+    let f = firsts-free addressKey t (l .i) (l .first) (u ∙ w .0 .left) (l .inv .3) in
+    (omega arith, rw (w .1) (l .inv .1), rw (held-miss t (l .i) (u ∙ w .0 .left)) (l .inv .2), rw (w .1) f))
+    (c .if1 .came)
+
+returns-2 : tie.Need-returns-2 Inv-loop μ-loop
+returns-2 c =
+    let e : c .before .loop .i ≡ c .before .before .before .args .n = omega arith in
+    sym (rw e at (c .before .loop .inv .2))
+
+pub holders-fit-spec : {M : Type 1} → statement M
+holders-fit-spec =
+    tie.close
+    (tie.spec
+    Inv-loop
+    μ-loop
+    loop-holds
+    mul-a
+    add-a
+    shared-slice-read-in-use
+    in-use-requires
+    add-get64
+    get64-requires
+    array-read-earlier
+    earlier-requires
+    holder-fits-requires
+    returns
+    cast-first
+    array-write-first
+    add-i
+    loop-less
+    loop-again
+    returns-2)

@@ -1,0 +1,78 @@
+-- `sound::number_apart` meets its contract: no entry passed has the number. Assumes nothing.
+use Prim.Native.Nat.{_-_, _≤_}
+use mathlib.Core.Path.{_≡_, sym, _∙_}
+use mathlib.Core.Bool.{true, not}
+use native.Mathlib.Omega.{arith}
+use borrow.Author.Needs.{needs}
+use lib.ListN.{getD}
+use Rattle.model.specs.Lists.{every}
+use Rattle.model.specs.Table.{slotAt}
+use Rattle.model.specs.Rules.{numbered}
+use Rattle.layout.specs.Shape.{inUse}
+use Rattle.layout.specs.Held.{holdingAt, heldTo}
+use Rattle.layout.proofs.HeldLaws.{every-yes, every-no}
+use Rattle.sound.proofs.PairLaws.{same-number, other-number}
+use Rattle.sound.proofs.number_apart.Statement.{statement}
+use Rattle.sound.proofs.number_apart.Tie as tie
+use Rattle.sound.proofs.number_apart.Reads as reads
+use Rattle.sound.proofs.number_apart.Lts as lts
+use Rattle.record.proofs.has_number.Reads as has-number-reads
+
+abbrev Inv-loop : tie.InvT-loop
+Inv-loop t from i number j₀ j = (j ≤ i) × (every (λ h. not (numbered number h)) (heldTo t j) ≡ true)
+
+abbrev μ-loop : tie.MeasureT-loop
+μ-loop t from i number j₀ j = i - j
+
+loop-holds : tie.Need-loop-holds Inv-loop μ-loop
+loop-holds c = (search needs, c .before .pre .3)
+
+mul-has-number : tie.Need-mul-has-number Inv-loop μ-loop
+mul-has-number c = search needs
+
+add-has-number : tie.Need-add-has-number Inv-loop μ-loop
+add-has-number c = search needs
+
+has-number-requires : tie.Need-has-number-requires Inv-loop μ-loop
+has-number-requires c κs = search needs
+
+returns : tie.Need-returns Inv-loop μ-loop
+returns c =
+    let l = c .before .before .before .loop in
+    let a = c .before .before .before .before .before .args in
+    let s = same-number (inUse (getD (a .t .now) (slotAt (l .j)) 0)) (holdingAt (a .t .now) (slotAt (l .j))) (a .number) (sym (c .before .has-number .ensures) ∙ c .if1 .taken) in
+    sym (every-no (a .t .now) (a .i) (l .j) (omega arith) (λ h. not (numbered (a .number) h)) s)
+
+add-j : tie.Need-add-j Inv-loop μ-loop
+add-j c = search needs
+
+loop-less : tie.Need-loop-less Inv-loop μ-loop
+loop-less c = search needs
+
+loop-again : tie.Need-loop-again Inv-loop μ-loop
+loop-again c =
+    let l = c .before .before .before .loop in
+    let a = c .before .before .before .before .before .args in
+    let s = other-number (inUse (getD (a .t .now) (slotAt (l .j)) 0)) (holdingAt (a .t .now) (slotAt (l .j))) (a .number) (sym (c .before .has-number .ensures) ∙ c .if1 .left) in
+    (omega arith, every-yes (a .t .now) (l .j) (λ h. not (numbered (a .number) h)) s (l .inv .1))
+
+returns-2 : tie.Need-returns-2 Inv-loop μ-loop
+returns-2 c =
+    let e : c .before .loop .j ≡ c .before .before .before .args .i = omega arith in
+    sym (rw e at (c .before .loop .inv .1))
+
+pub number-apart-spec : {M : Type 1} → statement M
+number-apart-spec =
+    tie.close
+    (tie.spec
+    Inv-loop
+    μ-loop
+    loop-holds
+    mul-has-number
+    add-has-number
+    has-number-requires
+    returns
+    add-j
+    loop-less
+    loop-again
+    returns-2)
