@@ -40,6 +40,25 @@ pub fn held(t: &[u8], n: usize) -> usize
     k
 }
 
+// What is left of a share once the entries of its address in the first n slots are taken from it.
+fn left_of(t: &[u8], n: usize, hi: u64, lo: u64, share: usize) -> usize
+    requires { ⌜ (1 ≤ share) × (slotAt n ≤ length (now t)) ⌝ }
+    ensures { λ r. ⌜ r ≡ share - count (heldTo (now (t .entry)) n) (heldBy (hi * 2 ^ 64 + lo)) ⌝ }
+{
+    let mut k = share;
+    let mut i: usize = 0;
+    while i < n {
+        if record::has_holder(t, layout::SLOTS_AT + layout::SLOT * i, hi, lo) {
+            k -= 1;
+            if k == 0 {
+                return 0;
+            }
+        }
+        i += 1;
+    }
+    k
+}
+
 // What line i keeps back: its share less what its address holds, where that is positive.
 fn kept_back(t: &[u8], n: usize, i: usize) -> usize
     requires { ⌜ (i < 16) × (slotAt n ≤ length (now t)) ⌝ }
@@ -50,11 +69,13 @@ fn kept_back(t: &[u8], n: usize, i: usize) -> usize
     if share == 0 {
         return 0;
     }
-    let k = held_by(t, n, octets::get64(t, a + 1), octets::get64(t, a + 9));
-    if share <= k {
-        return 0;
-    }
-    share - k
+    left_of(
+        t,
+        n,
+        octets::get64(t, a + 1),
+        octets::get64(t, a + 9),
+        share,
+    )
 }
 
 // The reserve, by the first m lines.

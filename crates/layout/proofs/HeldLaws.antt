@@ -90,3 +90,22 @@ module _ (b : List ℕ) (n i : ℕ) (l : i < n) where
 
   pub two-no : (q : Holding → Holding → Bool) → okAt b (λ k. every (λ h. not (q h k)) (heldTo b i)) i ≡ false → noTwo q (heldTo b n) ≡ false
   two-no q h = grows-no (λ j. noTwo q (heldTo b j)) (λ j. okAt b (λ k. every (λ h. not (q h k)) (heldTo b j)) j) (λ j. two-next b j q) n i l h
+
+-- MORE SLOTS
+
+module _ (b : List ℕ) (p : Holding → Bool) where
+  bit-most : (v : Bool) → bit v ≤ 1
+  bit-most true = omega arith
+  bit-most false = omega arith
+
+  pub count-most : (n : ℕ) → count (heldTo b n) p ≤ n
+  count-most zero = rw (held-none b) (omega arith)
+  count-most (suc n) =
+      let e : count (heldTo b (suc n)) p ≡ count (heldTo b n) p + bit (inUse (getD b (slotAt n) 0) && p (holdingAt b (slotAt n))) = rw add-one at (count-next b n p) in
+      omega (arith, count-most n, bit-most (inUse (getD b (slotAt n) 0) && p (holdingAt b (slotAt n))))
+
+  pub count-grows : (i n : ℕ) → i ≤ n → count (heldTo b i) p ≤ count (heldTo b n) p
+  count-grows i zero l = let e : i ≡ 0 = omega arith in rw e (omega arith)
+  count-grows i (suc n) l =
+      let e : count (heldTo b (suc n)) p ≡ count (heldTo b n) p + bit (inUse (getD b (slotAt n) 0) && p (holdingAt b (slotAt n))) = rw add-one at (count-next b n p) in
+      ⊎-elim (λ (w : i ≡ suc n). rw w (omega arith)) (λ (w : i < suc n). let m : i ≤ n = omega arith in omega (arith, count-grows i n m)) (eq-or-lt-of-le l)

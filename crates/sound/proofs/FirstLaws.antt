@@ -1,5 +1,5 @@
--- The table of first slots: for each remainder a slot below which no entry's number, or address, leaves it. Assumes nothing.
-use Prim.Native.Nat.{ℕ, _+_, _%_, _^_, _<_, min}
+-- The table of first slots: for each byte a slot below which no entry's number, or address, ends in it. Assumes nothing.
+use Prim.Native.Nat.{ℕ, suc, _+_, _*_, _%_, _<_, min}
 use native.Mathlib.Nat.{min-zero}
 use native.Mathlib.Omega.{arith}
 use mathlib.Core.Path.{_≡_, refl, sym, ap, _∙_}
@@ -14,24 +14,29 @@ use Rattle.model.specs.Lists.{every}
 use Rattle.model.specs.Numbers.{bigEndian, Bytes}
 use Rattle.model.specs.Table.{slotAt}
 use Rattle.model.specs.Rules.{Holding, numbered, heldBy}
-use Rattle.model.proofs.NumberLaws.{big-lt}
 use Rattle.model.proofs.ListLaws.{either, every-nil}
 use Rattle.layout.specs.Shape.{inUse}
 use Rattle.layout.specs.Held.{holdingAt, heldTo, okAt}
 use Rattle.layout.proofs.HeldLaws.{held-none, every-yes}
-use Rattle.layout.proofs.AddressLaws.{address-is}
 use Rattle.sound.proofs.PairLaws.{none-of}
 
--- what is left of a number, and of the low half of an address, when divided by 251: the same for entries of one number, or of one address
+-- the last byte of a number and of an address: the same for entries of one number, or of one address
 abbrev pub numberKey : Holding → ℕ
-numberKey h = h .number % 251
+numberKey h = h .number % 256
 
 abbrev pub addressKey : Holding → ℕ
-addressKey h = h .address % 2 ^ 64 % 251
+addressKey h = h .address % 256
 
--- the low half of the address of a record at a
-pub low-half : (s : List ℕ) (a : ℕ) {lo : ℕ} → Bytes s → lo ≡ bigEndian s (a + 9) 8 → bigEndian s (a + 1) 16 % 2 ^ 64 ≡ lo
-low-half s a b e = let h = address-is s a refl refl in let l = big-lt s (a + 9) 8 b in omega arith
+-- it stands last where the number is stored
+last-byte : (s : List ℕ) (at k : ℕ) → Bytes s → bigEndian s at (suc k) % 256 ≡ getD s (at + k) 0
+unfolding bigEndian
+last-byte s at k b = let l = b (at + k) in omega arith
+
+pub number-ends : (s : List ℕ) (a : ℕ) → Bytes s → bigEndian s (a + 19) 8 % 256 ≡ getD s (a + 26) 0
+number-ends s a b = last-byte s (a + 19) 7 b ∙ ap (λ (k : ℕ). getD s k 0) {x = a + 19 + 7} {y = a + 26} (omega arith)
+
+pub address-ends : (s : List ℕ) (a : ℕ) → Bytes s → bigEndian s (a + 1) 16 % 256 ≡ getD s (a + 16) 0
+address-ends s a b = last-byte s (a + 1) 15 b ∙ ap (λ (k : ℕ). getD s k 0) {x = a + 1 + 15} {y = a + 16} (omega arith)
 
 -- of the slots below i, none below first[x] has an entry of key x
 abbrev pub Firsts : (Holding → ℕ) → List ℕ → ℕ → List ℕ → Type 0
@@ -78,13 +83,10 @@ module _ (key : Holding → ℕ) (b : List ℕ) where
       → Firsts key b i first → every (λ h. not (q h)) (heldTo b p) ≡ true
   none-below i x p first q e k f = rw e (none-of q (λ h. eqb (key h) x) (heldTo b (min (getD first x 0) i)) (λ h z. eq-eqb (key h) x (k h z)) (f x))
 
-module _ (b : List ℕ) (i p : ℕ) (first : List ℕ) where
-  pub none-numbered : (x : ℕ) → p ≡ min (getD first (x % 251) 0) i → Firsts numberKey b i first → every (λ h. not (numbered x h)) (heldTo b p) ≡ true
-  none-numbered x e f = none-below numberKey b i (x % 251) p first (numbered x) e (λ h z. ap (λ (y : ℕ). y % 251) (eqb-true (h .number) x z)) f
+-- y: the last byte of the number, or of the address
+module _ (b : List ℕ) (i p y : ℕ) (first : List ℕ) (e : p ≡ min (getD first y 0) i) where
+  pub none-numbered : (x : ℕ) → x % 256 ≡ y → Firsts numberKey b i first → every (λ h. not (numbered x h)) (heldTo b p) ≡ true
+  none-numbered x l f = none-below numberKey b i y p first (numbered x) e (λ h z. ap (λ (w : ℕ). w % 256) (eqb-true (h .number) x z) ∙ l) f
 
-  -- lo: the low half of the address
-  pub none-holds : (a lo : ℕ) → a % 2 ^ 64 ≡ lo → p ≡ min (getD first (lo % 251) 0) i → Firsts addressKey b i first
-      → every (λ h. not (heldBy a h)) (heldTo b p) ≡ true
-  none-holds a lo l e f =
-      none-below addressKey b i (lo % 251) p first (heldBy a) e
-      (λ h z. ap (λ (y : ℕ). y % 2 ^ 64 % 251) (eqb-true (h .address) a z) ∙ ap (λ (y : ℕ). y % 251) l) f
+  pub none-holds : (a : ℕ) → a % 256 ≡ y → Firsts addressKey b i first → every (λ h. not (heldBy a h)) (heldTo b p) ≡ true
+  none-holds a l f = none-below addressKey b i y p first (heldBy a) e (λ h z. ap (λ (w : ℕ). w % 256) (eqb-true (h .address) a z) ∙ l) f

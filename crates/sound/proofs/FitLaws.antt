@@ -7,18 +7,20 @@ use mathlib.Core.Bool.{Bool, true, false, not, cond, _&&_, and-assoc}
 use mathlib.Core.List.{List}
 use lib.ListN.{length, getD}
 use lib.Dec.{eqb, leb}
-use borrow.Author.Tests.{eqb-true, lt-leb}
+use borrow.Author.Tests.{eqb-true, le-leb, lt-leb}
 use Rattle.model.specs.Lists.{count, any, every, noTwo}
 use Rattle.model.specs.Table.{Line, readLine, slotAt}
 use Rattle.model.specs.Rules.{Holding, numbered, heldBy, limitOf, reserve}
-use Rattle.model.specs.Sound.{validEntry, sameNumber, sameQuestion, soundHoldings}
+use Rattle.model.specs.Sound.{validLine, validEntry, sameNumber, sameQuestion, soundHoldings}
 use Rattle.model.specs.Calls.{goodRoster, rosterLines, rosterCount}
-use Rattle.model.proofs.ListLaws.{swap, upTo-ext}
+use Rattle.model.proofs.ListLaws.{swap, upTo-ext, every-not}
 use Rattle.layout.specs.Shape.{inUse, linesFrom}
 use Rattle.layout.specs.Held.{holdingAt, heldTo, okAt, within}
 use Rattle.sound.specs.Fits.{fits, fitted}
 use Rattle.layout.proofs.HeldLaws.{two-next, two-yes, two-no, grows-no}
+use Rattle.layout.proofs.LineLaws.{limit-min}
 use Rattle.layout.proofs.LimitLaws.{within-next}
+use Rattle.sound.proofs.PairLaws.{none-asks}
 
 module _ (b : List ℕ) (ls : List Line) where
   both : (i : ℕ) (p q : Holding → Bool) → okAt b (λ k. p k && q k) i ≡ okAt b p i && okAt b q i
@@ -35,6 +37,11 @@ module _ (b : List ℕ) (ls : List Line) where
       let q : Holding → Bool = λ k. leb (count (heldTo b i) (heldBy (k .address)) + 1) (limitOf ls (k .address)) in
       rw (two-next b i sameQuestion, within-next ls b i, both i p q)
       (swap (noTwo sameQuestion (heldTo b i)) (okAt b p i) (every (within ls (heldTo b i)) (heldTo b i)) (okAt b q i))
+
+-- a holding whose address has none below slot i
+pub fits-none : (b : List ℕ) (ls : List Line) (i : ℕ) (k : Holding) → every validLine ls ≡ true → every (λ h. not (heldBy (k .address) h)) (heldTo b i) ≡ true
+    → fits b ls i k ≡ true
+fits-none b ls i k v n = rw (none-asks k (heldTo b i) n, every-not (heldBy (k .address)) (heldTo b i) n) (le-leb 1 (limitOf ls (k .address)) (limit-min ls (k .address) v))
 
 -- slot i has an entry
 module _ (b : List ℕ) (i : ℕ) (held : inUse (getD b (slotAt i) 0) ≡ true) where

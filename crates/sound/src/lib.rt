@@ -83,11 +83,15 @@ fn may_add(t: &[u8], m: usize, k: usize, hi: u64, lo: u64) -> bool
     k < roster::limit_of(t, m, hi, lo)
 }
 
-// No entry has the number: those from slot `from` up to i are looked at, and of those below none has it.
-fn number_apart(t: &[u8], from: usize, i: usize, number: u64) -> bool
-    requires { ⌜ (from ≤ i) × (i ≤ 64) × (slotAt i ≤ length (now t)) × (every (λ h. not (numbered number h)) (heldTo (now t) from) ≡ true) ⌝ }
-    ensures { λ r. ⌜ r ≡ every (λ h. not (numbered number h)) (heldTo (now (t .entry)) i) ⌝ }
+// No entry below slot i has the number of the one at c. Those from slot `from` on are looked at: of those below none has it.
+fn number_apart(t: &[u8], from: usize, i: usize, c: usize) -> bool
+    requires { ⌜ (from ≤ i) × (i ≤ 64) × (slotAt i ≤ length (now t)) × (c + 320 ≤ length (now t)) × (every (λ h. not (numbered (holdingAt (now t) c .number) h)) (heldTo (now t) from) ≡ true) ⌝ }
+    ensures { λ r. ⌜ r ≡ every (λ h. not (numbered (holdingAt (now (t .entry)) c .number) h)) (heldTo (now (t .entry)) i) ⌝ }
 {
+    if from >= i {
+        return true;
+    }
+    let number = octets::get64(t, c + 19);
     let mut j = from;
     while j < i {
         if record::has_number(t, layout::SLOTS_AT + layout::SLOT * j, number) {
@@ -98,12 +102,16 @@ fn number_apart(t: &[u8], from: usize, i: usize, number: u64) -> bool
     true
 }
 
-// The entry at c, with those below slot i: none has its address and asks the same, and its address is within its limit. Those from slot `from` on are looked at, and of those below none has its address.
-fn holder_fits(t: &[u8], from: usize, i: usize, c: usize, m: usize, lo: u64) -> bool
-    requires { ⌜ (from ≤ i) × (i ≤ 64) × (m ≤ 16) × (slotAt i ≤ length (now t)) × (c + 320 ≤ length (now t)) × (every validLine (linesTo (now t) m) ≡ true) × (lo ≡ bigEndian (now t) (c + 9) 8) × (every (λ h. not (heldBy (holdingAt (now t) c .address) h)) (heldTo (now t) from) ≡ true) ⌝ }
+// The entry at c, with those below slot i: none has its address and asks the same, and its address is within its limit. Those from slot `from` on are looked at: of those below none has its address.
+fn holder_fits(t: &[u8], from: usize, i: usize, c: usize, m: usize) -> bool
+    requires { ⌜ (from ≤ i) × (i ≤ 64) × (m ≤ 16) × (slotAt i ≤ length (now t)) × (c + 320 ≤ length (now t)) × (every validLine (linesTo (now t) m) ≡ true) × (every (λ h. not (heldBy (holdingAt (now t) c .address) h)) (heldTo (now t) from) ≡ true) ⌝ }
     ensures { λ r. ⌜ r ≡ fits (now (t .entry)) (linesTo (now (t .entry)) m) i (holdingAt (now (t .entry)) c) ⌝ }
 {
+    if from >= i {
+        return true;
+    }
     let hi = octets::get64(t, c + 1);
+    let lo = octets::get64(t, c + 9);
     let mut k: usize = 0;
     let mut j = from;
     while j < i {
@@ -130,20 +138,19 @@ fn earlier(first: u8, i: usize) -> usize
     i
 }
 
-// No two entries have one number. first[x] is the first slot whose entry's number leaves x when divided by 251, and 64 where there is none: entries of one number leave the same, so those below that slot need not be looked at.
+// No two entries have one number. first[x] is the first slot whose entry's number ends in the byte x, and 64 where there is none: entries of one number end in the same byte, so those below that slot need not be looked at.
 fn numbers_apart(t: &[u8], n: usize) -> bool
     requires { ⌜ (n ≤ 64) × (slotAt n ≤ length (now t)) ⌝ }
     ensures { λ r. ⌜ r ≡ noTwo sameNumber (heldTo (now (t .entry)) n) ⌝ }
 {
-    let mut first = [64u8; 251];
+    let mut first = [64u8; 256];
     let mut i: usize = 0;
     while i < n {
         let a = layout::SLOTS_AT + layout::SLOT * i;
         if record::in_use(t[a]) {
-            let number = octets::get64(t, a + 19);
-            let x = (number % 251) as usize;
+            let x = t[a + 26] as usize;
             let p = earlier(first[x], i);
-            if !number_apart(t, p, i, number) {
+            if !number_apart(t, p, i, a) {
                 return false;
             }
             first[x] = p as u8;
@@ -153,20 +160,19 @@ fn numbers_apart(t: &[u8], n: usize) -> bool
     true
 }
 
-// No two entries have one address and question, and no address holds more than its limit. first[y] is likewise the first slot whose address's low half leaves y.
+// No two entries have one address and question, and no address holds more than its limit. first[y] is likewise the first slot whose address ends in the byte y.
 fn holders_fit(t: &[u8], n: usize, m: usize) -> bool
     requires { ⌜ (n ≤ 64) × (m ≤ 16) × (slotAt n ≤ length (now t)) × (every validLine (linesTo (now t) m) ≡ true) ⌝ }
     ensures { λ r. ⌜ r ≡ fitted (now (t .entry)) (linesTo (now (t .entry)) m) n ⌝ }
 {
-    let mut first = [64u8; 251];
+    let mut first = [64u8; 256];
     let mut i: usize = 0;
     while i < n {
         let a = layout::SLOTS_AT + layout::SLOT * i;
         if record::in_use(t[a]) {
-            let lo = octets::get64(t, a + 9);
-            let y = (lo % 251) as usize;
+            let y = t[a + 16] as usize;
             let p = earlier(first[y], i);
-            if !holder_fits(t, p, i, a, m, lo) {
+            if !holder_fits(t, p, i, a, m) {
                 return false;
             }
             first[y] = p as u8;
@@ -190,7 +196,11 @@ fn holdings_sound(t: &[u8], n: usize, m: usize) -> bool
     if !holders_fit(t, n, m) {
         return false;
     }
-    holdings::reserve_of(t, n, m) + holdings::held(t, n) <= n
+    let kept = holdings::reserve_of(t, n, m);
+    if kept == 0 {
+        return true;
+    }
+    kept + holdings::held(t, n) <= n
 }
 
 // The rules of a table of n slots.

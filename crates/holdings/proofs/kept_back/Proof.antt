@@ -9,7 +9,7 @@ use Rattle.holdings.proofs.kept_back.Tie as tie
 use Rattle.holdings.proofs.kept_back.Reads as reads
 use Rattle.holdings.proofs.kept_back.Lts as lts
 use Rattle.octets.proofs.get64.Reads as get64-reads
-use Rattle.holdings.proofs.held_by.Reads as held-by-reads
+use Rattle.holdings.proofs.left_of.Reads as left-of-reads
 
 mul-a : tie.Need-mul-a
 mul-a c = search needs
@@ -42,23 +42,16 @@ add-get64-2 c = search needs
 get64-requires-2 : tie.Need-get64-requires-2
 get64-requires-2 c κs = search needs
 
-held-by-requires : tie.Need-held-by-requires
-held-by-requires c κs = search needs
+left-of-requires : tie.Need-left-of-requires
+left-of-requires c κs = search needs
 
 returns-2 : tie.Need-returns-2
 unfolding readLine
 returns-2 c =
-    let e = address-is (c .before .before .before .before .before .before .before .args .t .now) (lineAt (c .before .before .before .before .before .before .before .args .i)) (c .before .before .before .get64 .ensures) (c .before .before .get642 .ensures) in
-    (omega arith, rw e (omega (arith, c .before .held-by .ensures .1)))
-
-sub-result : tie.Need-sub-result
-sub-result c = search needs
-
-returns-3 : tie.Need-returns-3
-unfolding readLine
-returns-3 c =
-    let e = address-is (c .before .before .before .before .before .before .before .args .t .now) (lineAt (c .before .before .before .before .before .before .before .args .i)) (c .before .before .before .get64 .ensures) (c .before .before .get642 .ensures) in
-    (omega (arith, c .before .before .before .before .before .shared-slice-known2 .given (9 + 19 * c .before .before .before .before .before .before .before .args .i + 17)), rw e (omega (arith, c .before .held-by .ensures .1)))
+    let z = c .before .before .before .before .before .before in
+    let e = address-is (z .args .t .now) (lineAt (z .args .i)) (c .before .before .get64 .ensures) (c .before .get642 .ensures) in
+    let l = c .left-of .ensures in
+    (omega (arith, l, c .before .before .before .before .shared-slice-known2 .given (9 + 19 * z .args .i + 17)), rw e l)
 
 pub kept-back-spec : {M : Type 1} → statement M
 kept-back-spec =
@@ -74,7 +67,5 @@ kept-back-spec =
     get64-requires
     add-get64-2
     get64-requires-2
-    held-by-requires
-    returns-2
-    sub-result
-    returns-3)
+    left-of-requires
+    returns-2)

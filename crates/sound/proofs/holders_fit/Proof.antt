@@ -1,6 +1,6 @@
--- `sound::holders_fit` meets its contract: the entries passed fit together, and below a remainder's first slot none leaves it. Assumes nothing.
-use Prim.Native.Nat.{ℕ, _-_, _%_, _≤_}
-use mathlib.Core.Path.{_≡_, refl, sym, ap, _∙_}
+-- `sound::holders_fit` meets its contract: the entries passed fit together, and below a byte's first slot none ends in it. Assumes nothing.
+use Prim.Native.Nat.{_+_, _-_, _≤_}
+use mathlib.Core.Path.{_≡_, refl, sym, _∙_}
 use mathlib.Core.Bool.{true}
 use mathlib.Core.Logic.{⊎-elim}
 use native.Mathlib.Omega.{arith}
@@ -14,25 +14,24 @@ use Rattle.layout.specs.Held.{holdingAt}
 use Rattle.layout.proofs.HeldLaws.{held-none, held-miss}
 use Rattle.sound.specs.Fits.{fitted}
 use Rattle.sound.proofs.FitLaws.{fits-yes, fits-no}
-use Rattle.sound.proofs.FirstLaws.{Firsts, addressKey, low-half, firsts-none, firsts-free, firsts-held, none-holds}
+use Rattle.sound.proofs.FirstLaws.{Firsts, addressKey, address-ends, firsts-none, firsts-free, firsts-held, none-holds}
 use Rattle.sound.proofs.holders_fit.Statement.{statement}
 use Rattle.sound.proofs.holders_fit.Tie as tie
 use Rattle.sound.proofs.holders_fit.Reads as reads
 use Rattle.sound.proofs.holders_fit.Lts as lts
-use Rattle.octets.proofs.get64.Reads as get64-reads
 use Rattle.record.proofs.in_use.Reads as in-use-reads
 use Rattle.sound.proofs.earlier.Reads as earlier-reads
 use Rattle.sound.proofs.holder_fits.Reads as holder-fits-reads
 
 abbrev Inv-loop : tie.InvT-loop
-Inv-loop t n m first₀ i₀ first i = (i ≤ n) × (length first ≡ 251) × (fitted t (linesTo t m) i ≡ true) × Firsts addressKey t i first
+Inv-loop t n m first₀ i₀ first i = (i ≤ n) × (length first ≡ 256) × (fitted t (linesTo t m) i ≡ true) × Firsts addressKey t i first
 
 abbrev μ-loop : tie.MeasureT-loop
 μ-loop t n m first₀ i₀ first i = n - i
 
 loop-holds : tie.Need-loop-holds Inv-loop μ-loop
 unfolding every noTwo
-loop-holds c = (search needs, refl, rw held-none, firsts-none addressKey _ (replicate 251 64))
+loop-holds c = (search needs, refl, rw held-none, firsts-none addressKey _ (replicate 256 64))
 
 mul-a : tie.Need-mul-a Inv-loop μ-loop
 mul-a c = search needs
@@ -46,14 +45,19 @@ shared-slice-read-in-use c = search needs
 in-use-requires : tie.Need-in-use-requires Inv-loop μ-loop
 in-use-requires c κs = search needs
 
-add-get64 : tie.Need-add-get64 Inv-loop μ-loop
-add-get64 c = search needs
+add-y : tie.Need-add-y Inv-loop μ-loop
+add-y c = search needs
 
-get64-requires : tie.Need-get64-requires Inv-loop μ-loop
-get64-requires c κs = search needs
+shared-slice-read-y : tie.Need-shared-slice-read-y Inv-loop μ-loop
+shared-slice-read-y c = search needs
+
+cast-y : tie.Need-cast-y Inv-loop μ-loop
+cast-y c = let l = c .before .before .before .before .before .loop in omega (arith, c .shared-slice-known3 .given (slotAt (l .i) + 16))
 
 array-read-earlier : tie.Need-array-read-earlier Inv-loop μ-loop
-array-read-earlier c = search needs
+array-read-earlier c =
+    let l = c .before .before .before .before .before .loop in
+    omega (arith, c .shared-slice-known3 .given (slotAt (l .i) + 16))
 
 earlier-requires : tie.Need-earlier-requires Inv-loop μ-loop
 earlier-requires c κs = search needs
@@ -63,9 +67,8 @@ unfolding holdingAt readEntry
 holder-fits-requires c κs =
     let l = c .before .before .before .before .before .before .loop in
     let t = c .before .before .before .before .before .before .before .before .args .t .now in
-    let e = low-half t (slotAt (l .i)) (λ i. omega (arith, c .before .before .before .before .before .before .before .shared-slice-known .given i)) (c .before .get64 .ensures) in
-    let b = none-holds t (l .i) _ (l .first) _ (c .before .get64 .result) e (c .earlier .ensures) (l .inv .3) in
-    (omega arith, omega arith, omega arith, omega arith, omega arith, c .before .before .before .before .before .before .before .before .pre .3, c .before .get64 .ensures, b)
+    let e = address-ends t (slotAt (l .i)) (λ i. omega (arith, c .before .before .before .before .before .before .before .shared-slice-known .given i)) in
+    (omega arith, omega arith, omega arith, omega arith, omega arith, c .before .before .before .before .before .before .before .before .pre .3, none-holds t (l .i) _ _ (l .first) (c .earlier .ensures) _ e (l .inv .3))
 
 returns : tie.Need-returns Inv-loop μ-loop
 returns c =
@@ -78,7 +81,9 @@ cast-first : tie.Need-cast-first Inv-loop μ-loop
 cast-first c = search needs
 
 array-write-first : tie.Need-array-write-first Inv-loop μ-loop
-array-write-first c = search needs
+array-write-first c =
+    let l = c .before .before .before .before .before .before .before .before .loop in
+    omega (arith, c .before .before .before .shared-slice-known3 .given (slotAt (l .i) + 16))
 
 add-i : tie.Need-add-i Inv-loop μ-loop
 add-i c = search needs
@@ -95,9 +100,8 @@ loop-again c =
     let u = sym (c .before .in-use .ensures) in
     ⊎-elim
     (λ w.
-    let x = w .1 .result in
-    let e = low-half t (slotAt (l .i)) (λ i. omega (arith, c .before .before .before .before .before .shared-slice-known .given i)) (w .1 .ensures) in
-    let f = firsts-held addressKey t (l .i) (x % 251) _ (l .first) (ap (λ (y : ℕ). y % 251) (sym e)) (w .2 .ensures) (omega arith) (l .inv .3) in
+    let e = address-ends t (slotAt (l .i)) (λ i. omega (arith, c .before .before .before .before .before .shared-slice-known .given i)) in
+    let f = firsts-held addressKey t (l .i) _ _ (l .first) (sym e) (w .2 .ensures) (omega (arith, w .1 .given (slotAt (l .i) + 16))) (l .inv .3) in
     let s = fits-yes t (l .i) (u ∙ w .0 .taken) (linesTo t (a .m)) (sym (w .3 .ensures) ∙ not-false _ (w .4 .left)) (l .inv .2) in
     (omega arith, rw (w .5, length-set) (l .inv .1), s, rw (w .5) f))
     (λ w.
@@ -121,8 +125,9 @@ holders-fit-spec =
     add-a
     shared-slice-read-in-use
     in-use-requires
-    add-get64
-    get64-requires
+    add-y
+    shared-slice-read-y
+    cast-y
     array-read-earlier
     earlier-requires
     holder-fits-requires

@@ -1,6 +1,13 @@
 -- `sound::holdings_sound` meets its contract: one rule after the other. Assumes nothing.
-use mathlib.Core.Path.{sym, _∙_}
-use borrow.Author.Tests.{not-true, not-false}
+use Prim.Native.Nat.{_+_}
+use mathlib.Core.Path.{_≡_, sym, _∙_}
+use native.Mathlib.Omega.{arith}
+use borrow.Author.Tests.{not-true, not-false, le-leb}
+use Rattle.model.specs.Lists.{count, any}
+use Rattle.model.specs.Rules.{reserve}
+use Rattle.layout.specs.Shape.{linesTo}
+use Rattle.layout.specs.Held.{heldTo}
+use Rattle.layout.proofs.HeldLaws.{count-most}
 use Rattle.sound.proofs.FitLaws.{holdings-is}
 use borrow.Author.Needs.{needs}
 use Rattle.sound.proofs.holdings_sound.Statement.{statement}
@@ -45,20 +52,33 @@ returns-3 c =
 reserve-of-requires : tie.Need-reserve-of-requires
 reserve-of-requires c κs = search needs
 
+returns-4 : tie.Need-returns-4
+returns-4 c =
+    let a = c .before .before .before .before .before .before .before .before .before .args in
+    let r : reserve (linesTo (a .t .now) (a .m)) (count (heldTo (a .t .now) (a .n))) ≡ 0 = sym (c .before .reserve-of .ensures .1) ∙ c .if4 .taken in
+    rw (
+      holdings-is,
+      sym (c .before .before .before .before .before .before .before .entries-valid .ensures) ∙ not-false _ (c .before .before .before .before .before .before .if1 .left),
+      sym (c .before .before .before .before .before .numbers-apart .ensures) ∙ not-false _ (c .before .before .before .before .if2 .left),
+      sym (c .before .before .before .holders-fit .ensures) ∙ not-false _ (c .before .before .if3 .left),
+      r,
+    )
+    (sym (le-leb (0 + count (heldTo (a .t .now) (a .n)) any) (a .n) (omega (arith, count-most (a .t .now) any (a .n)))))
+
 held-requires : tie.Need-held-requires
 held-requires c κs = search needs
 
 add-result : tie.Need-add-result
 add-result c = search needs
 
-returns-4 : tie.Need-returns-4
-returns-4 c =
+returns-5 : tie.Need-returns-5
+returns-5 c =
     rw (
       holdings-is,
-      sym (c .before .before .before .before .before .before .before .entries-valid .ensures) ∙ not-false _ (c .before .before .before .before .before .before .if1 .left),
-      sym (c .before .before .before .before .before .numbers-apart .ensures) ∙ not-false _ (c .before .before .before .before .if2 .left),
-      sym (c .before .before .before .holders-fit .ensures) ∙ not-false _ (c .before .before .if3 .left),
-      c .before .reserve-of .ensures .1,
+      sym (c .before .before .before .before .before .before .before .before .entries-valid .ensures) ∙ not-false _ (c .before .before .before .before .before .before .before .if1 .left),
+      sym (c .before .before .before .before .before .before .numbers-apart .ensures) ∙ not-false _ (c .before .before .before .before .before .if2 .left),
+      sym (c .before .before .before .before .holders-fit .ensures) ∙ not-false _ (c .before .before .before .if3 .left),
+      c .before .before .reserve-of .ensures .1,
       c .held .ensures .1,
     )
 
@@ -73,6 +93,7 @@ holdings-sound-spec =
     holders-fit-requires
     returns-3
     reserve-of-requires
+    returns-4
     held-requires
     add-result
-    returns-4)
+    returns-5)
