@@ -38,6 +38,13 @@ pub fn get64(s: &[u8], at: usize) -> u64
 
 // The last bytes of x, from the least significant.
 
+pub fn put8(s: &mut [u8], at: usize, x: u8)
+    requires { ⌜ at + 1 ≤ length (now s) ⌝ }
+    ensures { λ _. ⌜ now (s .exit) ≡ splice at 1 (bytesOf 1 x) (now (s .entry)) ⌝ }
+{
+    s[at] = x;
+}
+
 pub fn put16(s: &mut [u8], at: usize, x: u16)
     requires { ⌜ at + 2 ≤ length (now s) ⌝ }
     ensures { λ _. ⌜ now (s .exit) ≡ splice at 2 (bytesOf 2 x) (now (s .entry)) ⌝ }

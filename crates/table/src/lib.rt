@@ -18,14 +18,6 @@ ghost use Rattle.table.specs.Written.{WellFormed, Written};
 ghost use Rattle.table.specs.Stored.{kindByte, whoFields, whatFields, nameBytes, entryBytes};
 ghost use Rattle.table.specs.Fresh.{unusedLines, freeSlots, fresh};
 
-// One byte.
-fn put8(s: &mut [u8], at: usize, x: u8)
-    requires { ⌜ at + 1 ≤ length (now s) ⌝ }
-    ensures { λ _. ⌜ now (s .exit) ≡ splice at 1 (bytesOf 1 x) (now (s .entry)) ⌝ }
-{
-    s[at] = x;
-}
-
 // WRITERS OF A SLOT
 
 // An entry ends: slot i becomes free. Nothing else but making frees a slot.
@@ -34,7 +26,7 @@ pub fn end_entry(t: &mut [u8], i: usize)
     ensures { λ _. ⌜ now (t .exit) ≡ splice (slotAt i) 320 (slotBytes ended) (now (t .entry)) ⌝ }
 {
     let a = layout::SLOTS_AT + layout::SLOT * i;
-    put8(t, a, 4);
+    octets::put8(t, a, 4);
     octets::clear(t, a + 1, 319);
 }
 
@@ -55,7 +47,7 @@ fn put_who(s: &mut [u8], e: Entry)
 {
     let state = e.state;
     let number = e.number;
-    put8(s, 0, kind_byte(state));
+    octets::put8(s, 0, kind_byte(state));
     octets::put64(s, 1, e.high);
     octets::put64(s, 9, e.low);
     octets::put16(s, 17, e.port);
@@ -79,7 +71,7 @@ fn put_name(s: &mut [u8], len: u8, d: &[u8], at: usize)
     ensures { λ _. ⌜ now (s .exit) ≡ splice 39 281 (nameBytes (map fold (part at len (now (d .entry))))) (now (s .entry)) ⌝ }
 {
     let n = len as usize;
-    put8(s, 39, len);
+    octets::put8(s, 39, len);
     names::copy_folded(s, 40, d, at, n);
     octets::clear(s, 40 + n, 280 - n);
 }
@@ -109,7 +101,7 @@ pub fn establish_at(t: &mut [u8], i: usize)
     requires { ⌜ slotAt (i + 1) ≤ length (now t) ⌝ }
     ensures { λ _. ⌜ now (t .exit) ≡ splice (slotAt i) 1 (bytesOf 1 6) (now (t .entry)) ⌝ }
 {
-    put8(t, layout::SLOTS_AT + layout::SLOT * i, 6)
+    octets::put8(t, layout::SLOTS_AT + layout::SLOT * i, 6)
 }
 
 // The entry of slot i gets a lease and a stamp.
@@ -173,7 +165,7 @@ fn clear_line(t: &mut [u8], i: usize)
     ensures { λ _. ⌜ now (t .exit) ≡ splice (lineAt i) 19 unusedLine (now (t .entry)) ⌝ }
 {
     let a = layout::LINES_AT + layout::LINE * i;
-    put8(t, a, 2);
+    octets::put8(t, a, 2);
     octets::clear(t, a + 1, 18);
 }
 
@@ -207,7 +199,7 @@ pub fn make_fresh(t: &mut [u8], n: usize, place: u32, roster: &[u8])
     ensures { λ _. ⌜ now (t .exit) ≡ tableBytes (fresh place (now (roster .entry)) n) ⌝ }
 {
     let k = roster.len();
-    put8(t, 0, 1);
+    octets::put8(t, 0, 1);
     put_clock(t, Clock { place, running: 0 });
     octets::copy(t, layout::LINES_AT, roster, 0, k);
     clear_lines(t, k / layout::LINE);

@@ -2,18 +2,11 @@
 ghost use mathlib.Core.Path.{_≡_};
 ghost use Prim.Native.Nat.{_+_, _≤_};
 ghost use lib.ListN.{length};
-ghost use Rattle.model.specs.Numbers.{bytesOf, splice};
+ghost use Rattle.model.specs.Numbers.{splice};
 ghost use Rattle.model.specs.Reply.{optBytes, optionBytes};
 ghost use Rattle.wire.specs.Write.{headerSent, outcomeSent};
 use crate::LlqNumber;
 use crate::MessageNumber;
-
-fn put8(s: &mut [u8], at: usize, x: u8)
-    requires { ⌜ at + 1 ≤ length (now s) ⌝ }
-    ensures { λ _. ⌜ now (s .exit) ≡ splice at 1 (bytesOf 1 x) (now (s .entry)) ⌝ }
-{
-    s[at] = x;
-}
 
 // The header: the message number and QDCOUNT repeated, 0x84 plus the RD bit, one additional record.
 pub fn put_header(reply: &mut [u8], number: MessageNumber, desired: u8, count: u16)
@@ -21,8 +14,8 @@ pub fn put_header(reply: &mut [u8], number: MessageNumber, desired: u8, count: u
     ensures { λ _. ⌜ now (reply .exit) ≡ splice 0 12 (headerSent (number .0) desired count) (now (reply .entry)) ⌝ }
 {
     octets::put16(reply, 0, number.0);
-    put8(reply, 2, 132 + desired);
-    put8(reply, 3, 0);
+    octets::put8(reply, 2, 132 + desired);
+    octets::put8(reply, 3, 0);
     octets::put16(reply, 4, count);
     octets::put16(reply, 6, 0);
     octets::put16(reply, 8, 0);
@@ -34,7 +27,7 @@ pub fn put_opt(reply: &mut [u8], at: usize, k: u16)
     requires { ⌜ (k ≤ 8) × (at + 11 ≤ length (now reply)) ⌝ }
     ensures { λ _. ⌜ now (reply .exit) ≡ splice at 11 (optBytes k) (now (reply .entry)) ⌝ }
 {
-    put8(reply, at, 0);
+    octets::put8(reply, at, 0);
     let a = at + 1;
     octets::put16(reply, a, 41);
     let b = a + 2;

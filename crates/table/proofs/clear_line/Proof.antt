@@ -7,7 +7,7 @@ use Rattle.table.proofs.clear_line.Tie as tie
 use Rattle.table.proofs.clear_line.Reads as reads
 use Rattle.table.proofs.clear_line.Lts as lts
 use Rattle.octets.proofs.clear.Reads as clear-reads
-use Rattle.table.proofs.put8.Reads as put8-reads
+use Rattle.octets.proofs.put8.Reads as put8-reads
 
 mul-a : tie.Need-mul-a
 mul-a c = search needs

@@ -7,7 +7,7 @@ use Rattle.table.proofs.end_entry.Tie as tie
 use Rattle.table.proofs.end_entry.Reads as reads
 use Rattle.table.proofs.end_entry.Lts as lts
 use Rattle.octets.proofs.clear.Reads as clear-reads
-use Rattle.table.proofs.put8.Reads as put8-reads
+use Rattle.octets.proofs.put8.Reads as put8-reads
 
 mul-a : tie.Need-mul-a
 mul-a c = search needs

@@ -10,7 +10,7 @@ use Rattle.table.proofs.make_fresh.Lts as lts
 use Rattle.octets.proofs.copy.Reads as copy-reads
 use Rattle.table.proofs.clear_lines.Reads as clear-lines-reads
 use Rattle.table.proofs.clear_slots.Reads as clear-slots-reads
-use Rattle.table.proofs.put8.Reads as put8-reads
+use Rattle.octets.proofs.put8.Reads as put8-reads
 use Rattle.table.proofs.put_clock.Reads as put-clock-reads
 
 put8-requires : tie.Need-put8-requires

@@ -13,7 +13,7 @@ use Rattle.table.proofs.put_name.Reads as reads
 use Rattle.table.proofs.put_name.Lts as lts
 use Rattle.octets.proofs.clear.Reads as clear-reads
 use Rattle.names.proofs.copy_folded.Reads as copy-folded-reads
-use Rattle.table.proofs.put8.Reads as put8-reads
+use Rattle.octets.proofs.put8.Reads as put8-reads
 
 put8-requires : tie.Need-put8-requires
 put8-requires c κs = search needs

@@ -11,7 +11,7 @@ use Rattle.table.proofs.put_who.Lts as lts
 use Rattle.octets.proofs.put16.Reads as put16-reads
 use Rattle.octets.proofs.put64.Reads as put64-reads
 use Rattle.table.proofs.kind_byte.Reads as kind-byte-reads
-use Rattle.table.proofs.put8.Reads as put8-reads
+use Rattle.octets.proofs.put8.Reads as put8-reads
 
 kind-byte-requires : tie.Need-kind-byte-requires
 kind-byte-requires c κs = search needs

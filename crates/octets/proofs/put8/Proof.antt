@@ -1,11 +1,11 @@
--- `table::put8` meets its contract. Assumes nothing.
+-- `octets::put8` meets its contract. Assumes nothing.
 use native.Mathlib.Omega.{arith}
 use borrow.Author.Needs.{needs}
 use Rattle.model.proofs.NumberLaws.{set-splice}
-use Rattle.table.proofs.put8.Statement.{statement}
-use Rattle.table.proofs.put8.Tie as tie
-use Rattle.table.proofs.put8.Reads as reads
-use Rattle.table.proofs.put8.Lts as lts
+use Rattle.octets.proofs.put8.Statement.{statement}
+use Rattle.octets.proofs.put8.Tie as tie
+use Rattle.octets.proofs.put8.Reads as reads
+use Rattle.octets.proofs.put8.Lts as lts
 
 slice-write-s : tie.Need-slice-write-s
 slice-write-s c = search needs
