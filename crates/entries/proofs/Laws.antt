@@ -4,15 +4,14 @@ use native.Mathlib.Omega.{arith}
 use borrow.Author.Tests.{ne-eqb, le-leb, lt-leb}
 use mathlib.Core.Path.{_≡_, refl, ap, _∙_}
 use mathlib.Core.Logic.{_≢_}
-use mathlib.Core.Bool.{Bool, true, false, not, cond, _&&_, _||_, and-false, true≢false}
+use mathlib.Core.Bool.{Bool, true, false, not, cond, _&&_, _||_, and-false}
 use mathlib.Core.List.{List}
 use lib.ListN.{length, getD}
 use lib.Dec.{eqb, leb}
 use Rattle.model.specs.Lists.{count, any, indexOf}
 use Rattle.model.specs.Numbers.{bigEndian}
 use Rattle.model.specs.Table.{Slot, free, held, slotAt, sizeOf, readEntry, readSlot, readTable, listed}
-use Rattle.model.specs.Query.{Question}
-use Rattle.model.specs.Rules.{Holding, holding, holdings, asks, heldBy, numbered, Counts, shareOf, limitOf, reserve, full, freshNumber}
+use Rattle.model.specs.Rules.{Holding, holding, holdings, heldBy, numbered, Counts, shareOf, limitOf, reserve, full, freshNumber}
 use Rattle.model.specs.Serve.{has, findEntry}
 use Rattle.model.proofs.ListLaws.{count-at, every-nil, every-next, every-not, index-upTo, index-upTo-none, length-upTo, getD-upTo, upTo-none}
 use Rattle.model.proofs.HoldingLaws.{count-entries}
@@ -59,9 +58,6 @@ not-six r p b at n = has-is r (λ h. h .established && p h) b at ∙ (rw (ne-eqb
 -- THE SLOTS OF A TABLE OF n
 
 module _ (b : List ℕ) (n : ℕ) (size : length b ≡ sizeOf n) where
-  pub slots-count : length (readTable b .slots) ≡ n
-  slots-count = ap length (slots-read b n size) ∙ length-upTo n (λ j. readSlot b (slotAt j))
-
   -- the first that passes a test
   module _ (q : Slot → Bool) where
     pub index-here : (i : ℕ) → i < n → noneTo b q i → q (readSlot b (slotAt i)) ≡ true → indexOf q (readTable b .slots) ≡ i

@@ -1,18 +1,15 @@
--- An address as two halves of eight bytes, and numbers compared as bytes. Assumes nothing.
-use Prim.Native.Nat.{ℕ, zero, suc, _+_, _*_, _^_, _≤_, _<_}
-use native.Mathlib.Nat.{mul-assoc, pow-suc, add-zero, add-suc}
+-- An address as two halves of eight bytes. Assumes nothing.
+use Prim.Native.Nat.{ℕ, zero, suc, _+_, _*_, _/_, _%_, _^_, _<_}
+use native.Mathlib.Nat.{mul-assoc, pow-suc, add-zero, add-suc, mul-add-div-right, div-eq-of-lt, mul-add-mod-self-right, mod-eq-of-lt}
 use native.Mathlib.Omega.{arith}
 use mathlib.Core.Path.{_≡_, sym, ap, _∙_}
-use mathlib.Core.Bool.{false}
+use mathlib.Core.Bool.{false, _&&_, and-true, and-false}
 use mathlib.Core.List.{List}
 use mathlib.Core.Logic.{_≢_}
-use lib.ListN.{length, getD}
 use lib.Dec.{eqb}
 use borrow.Author.Tests.{eqb-true, eq-eqb, ne-eqb}
-use Rattle.model.specs.Numbers.{bigEndian, Bytes, bytesOf, part}
-use Rattle.model.specs.Lists.{same}
-use Rattle.model.proofs.NumberLaws.{big-ext, getD-part, bytes-big}
-use Rattle.model.proofs.ListLaws.{iff, same-true, same-refl}
+use Rattle.model.specs.Numbers.{bigEndian}
+use Rattle.model.proofs.ListLaws.{iff, and-left, and-right, and-both}
 
 -- a number of j + k bytes is its first j and its last k
 pub big-add : (s : List ℕ) (at j k : ℕ) → bigEndian s at (j + k) ≡ bigEndian s at j * 256 ^ k + bigEndian s (at + j) k
@@ -32,26 +29,34 @@ address-is s a p q =
     let e : a + 1 + 8 ≡ a + 9 = omega arith in
     rw (p, q) (big-halves s (a + 1) ∙ ap (λ (x : ℕ). bigEndian s (a + 1) 8 * 2 ^ 64 + bigEndian s x 8) e)
 
--- two numbers of two halves are the same exactly if both halves are
+-- two numbers of two halves, the second below w, are the same exactly if both halves are
+module _ (w x y a c : ℕ) (h : y < w) (l : c < w) where
+  high : x * w + y ≡ a * w + c → x ≡ a
+  high e =
+      let p : 0 < w = omega arith in
+      let u : (x * w + y) / w ≡ x = mul-add-div-right p x y ∙ (rw (div-eq-of-lt h) (add-zero x)) in
+      let v : (a * w + c) / w ≡ a = mul-add-div-right p a c ∙ (rw (div-eq-of-lt l) (add-zero a)) in
+      sym u ∙ ap (λ (k : ℕ). k / w) e ∙ v
+
+  low : x * w + y ≡ a * w + c → y ≡ c
+  low e =
+      let u : (x * w + y) % w ≡ y = mul-add-mod-self-right x w y ∙ mod-eq-of-lt h in
+      let v : (a * w + c) % w ≡ c = mul-add-mod-self-right a w c ∙ mod-eq-of-lt l in
+      sym u ∙ ap (λ (k : ℕ). k % w) e ∙ v
+
+  pub halves-are : eqb (x * w + y) (a * w + c) ≡ eqb x a && eqb y c
+  halves-are =
+      iff (eqb (x * w + y) (a * w + c)) (eqb x a && eqb y c)
+      (λ t. let e = eqb-true (x * w + y) (a * w + c) t in and-both (eqb x a) (eqb y c) (eq-eqb x a (high e)) (eq-eqb y c (low e)))
+      (λ t.
+      let u = eqb-true x a (and-left (eqb x a) (eqb y c) t) in
+      let v = eqb-true y c (and-right (eqb x a) (eqb y c) t) in
+      eq-eqb (x * w + y) (a * w + c) (rw (u, v)))
+
+-- of an address
 module _ (x y a c : ℕ) (h : y < 2 ^ 64) (l : c < 2 ^ 64) where
   pub halves-hit : y ≡ c → eqb (x * 2 ^ 64 + y) (a * 2 ^ 64 + c) ≡ eqb x a
-  halves-hit e =
-      iff (eqb (x * 2 ^ 64 + y) (a * 2 ^ 64 + c)) (eqb x a)
-      (λ t. eq-eqb x a (let q = eqb-true (x * 2 ^ 64 + y) (a * 2 ^ 64 + c) t in omega arith))
-      (λ t. eq-eqb (x * 2 ^ 64 + y) (a * 2 ^ 64 + c) (let q = eqb-true x a t in omega arith))
+  halves-hit e = halves-are (2 ^ 64) x y a c h l ∙ (rw (eq-eqb y c e) (and-true (eqb x a)))
 
   pub halves-miss : y ≢ c → eqb (x * 2 ^ 64 + y) (a * 2 ^ 64 + c) ≡ false
-  halves-miss n = ne-eqb (x * 2 ^ 64 + y) (a * 2 ^ 64 + c) (λ q. n (omega arith))
-
--- equal bytes are equal numbers
-pub same-big : (s : List ℕ) (a c k : ℕ) → Bytes s → a + k ≤ length s → c + k ≤ length s
-    → same (part a k s) (part c k s) ≡ eqb (bigEndian s a k) (bigEndian s c k)
-same-big s a c k b h l =
-    iff (same (part a k s) (part c k s)) (eqb (bigEndian s a k) (bigEndian s c k))
-    (λ t.
-    let q = same-true (part a k s) (part c k s) t in
-    eq-eqb (bigEndian s a k) (bigEndian s c k)
-    (big-ext s s a c k (λ i m. sym (getD-part a k s i m) ∙ ap (λ (z : List ℕ). getD z i 0) q ∙ getD-part c k s i m)))
-    (λ t.
-    let q = eqb-true (bigEndian s a k) (bigEndian s c k) t in
-    rw (← bytes-big s a k b h, ← bytes-big s c k b l, q) (same-refl (bytesOf k (bigEndian s c k))))
+  halves-miss n = halves-are (2 ^ 64) x y a c h l ∙ (rw (ne-eqb y c n) (and-false (eqb x a)))

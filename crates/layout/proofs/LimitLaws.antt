@@ -4,39 +4,19 @@ use native.Mathlib.Omega.{arith}
 use mathlib.Core.Path.{_≡_, refl, sym, ap, _∙_}
 use mathlib.Core.Bool.{Bool, true, false, cond, _&&_, and-true}
 use mathlib.Core.List.{List, [], _∷_, _++_}
-use mathlib.Core.Logic.{⊎-elim, _⊎_, inl, inr}
 use lib.ListN.{getD}
 use lib.Dec.{eqb, leb}
 use borrow.Author.Tests.{eqb-true, eq-eqb, leb-true, le-leb}
 use Rattle.model.specs.Lists.{bit, count, every}
 use Rattle.model.specs.Table.{Line, slotAt}
 use Rattle.model.specs.Rules.{Holding, heldBy, limitOf}
-use Rattle.model.proofs.ListLaws.{iff, and-left, and-right, and-both, count-append, every-all}
+use Rattle.model.proofs.ListLaws.{iff, and-left, and-right, and-both, count-append}
+use Rattle.model.proofs.Facts.{within-all, all-within}
 use Rattle.layout.specs.Shape.{inUse}
 use Rattle.layout.specs.Held.{holdingAt, heldTo, okAt, within}
 use Rattle.layout.proofs.HeldLaws.{held-hit, held-miss}
 
--- a rule of each holding's address is a rule of every address that holds
-by-address : (p : ℕ → Bool) (l : List Holding) (a : ℕ) → every (λ h. p (h .address)) l ≡ true → (count l (heldBy a) ≡ 0) ⊎ (p a ≡ true)
-unfolding every
-by-address p [] a h = inl refl
-by-address p (x ∷ l) a h = go (eqb (x .address) a) refl (by-address p l a (and-right (p (x .address)) (every (λ h. p (h .address)) l) h))
-  where
-    go : (v : Bool) → eqb (x .address) a ≡ v → (count l (heldBy a) ≡ 0) ⊎ (p a ≡ true) → (bit v + count l (heldBy a) ≡ 0) ⊎ (p a ≡ true)
-    go true e z = inr (ap p (sym (eqb-true (x .address) a e)) ∙ and-left (p (x .address)) (every (λ h. p (h .address)) l) h)
-    go false e z = ⊎-elim (λ (w : count l (heldBy a) ≡ 0). inl (omega arith)) (λ (w : p a ≡ true). inr w) z
-
 module _ (ls : List Line) where
-  pub within-all : (hs : List Holding) → every (within ls hs) hs ≡ true → (a : ℕ) → count hs (heldBy a) ≤ limitOf ls a
-  within-all hs h a =
-      ⊎-elim
-      (λ (z : count hs (heldBy a) ≡ 0). omega arith)
-      (λ (z : leb (count hs (heldBy a)) (limitOf ls a) ≡ true). leb-true (count hs (heldBy a)) (limitOf ls a) z)
-      (by-address (λ a. leb (count hs (heldBy a)) (limitOf ls a)) hs a h)
-
-  pub all-within : (hs : List Holding) → ((a : ℕ) → count hs (heldBy a) ≤ limitOf ls a) → every (within ls hs) hs ≡ true
-  all-within hs h = every-all (within ls hs) hs (λ x. le-leb (count hs (heldBy (x .address))) (limitOf ls (x .address)) (h (x .address)))
-
   -- one holding more
   module _ (l : List Holding) (z : Holding) where
     own : count (l ++ (z ∷ [])) (heldBy (z .address)) ≡ count l (heldBy (z .address)) + 1
@@ -59,12 +39,12 @@ module _ (ls : List Line) where
         let m = limitOf ls (z .address) in
         iff (every (within ls (l ++ (z ∷ []))) (l ++ (z ∷ []))) (every (within ls l) l && leb c m)
         (λ h.
-        let f = within-all (l ++ (z ∷ [])) h in
-        and-both (every (within ls l) l) (leb c m) (all-within l (λ a. omega (arith, more a, f a))) (le-leb c m (rw own at (f (z .address)))))
+        let f = within-all ls (l ++ (z ∷ [])) h in
+        and-both (every (within ls l) l) (leb c m) (all-within ls l (λ a. omega (arith, more a, f a))) (le-leb c m (rw own at (f (z .address)))))
         (λ h.
-        let f = within-all l (and-left (every (within ls l) l) (leb c m) h) in
+        let f = within-all ls l (and-left (every (within ls l) l) (leb c m) h) in
         let k = leb-true c m (and-right (every (within ls l) l) (leb c m) h) in
-        all-within (l ++ (z ∷ [])) (λ a. grown a f k))
+        all-within ls (l ++ (z ∷ [])) (λ a. grown a f k))
 
   -- one slot more
   pub within-next : (b : List ℕ) (i : ℕ) → every (within ls (heldTo b (i + 1))) (heldTo b (i + 1))

@@ -10,8 +10,7 @@ use Rattle.model.specs.Numbers.{bigEndian, Bytes, part}
 use Rattle.model.specs.Table.{Slot, free, held, slotBytes, tableBytes, readTable, readSlot, readEntry, slotAt, listed, sizeOf, slotsIn}
 use Rattle.model.proofs.ListLaws.{and-right, same-refl, same-true, getD-upTo}
 use Rattle.model.proofs.TableLaws.{length-table}
-use Rattle.model.proofs.Meaning.{fits-read, lines-read}
-pub use Rattle.model.proofs.Meaning.{slots-read as slots-length}
+use Rattle.model.proofs.Meaning.{fits-read, lines-read, slots-read}
 use Rattle.layout.specs.Shape.{inUse, all, slotShape, unusedFrom, tableShape}
 use Rattle.layout.proofs.ShapeLaws.{all-at, slot-shape-is}
 use Rattle.layout.proofs.LayoutLaws.{layout-is}
@@ -39,7 +38,7 @@ module _ (b : List ℕ) where
 
 module _ (b : List ℕ) (bytes : Bytes b) where
   pub formed-length : length (tableBytes (readTable b)) ≡ sizeOf (slotsIn (length b))
-  formed-length = length-table (readTable b) (lines-read b) (fits-read b bytes) ∙ ap (λ (k : ℕ). sizeOf k) (slots-length b)
+  formed-length = length-table (readTable b) (lines-read b) (fits-read b bytes) ∙ ap (λ (k : ℕ). sizeOf k) (slots-read b)
 
   -- bytes that are those of the table read from them
   module _ (formed : tableBytes (readTable b) ≡ b) where

@@ -14,7 +14,7 @@ use Rattle.model.specs.Numbers.{bigEndian, Bytes, part, encode}
 use Rattle.model.proofs.NumberLaws.{length-part, bytes-big, big-one, part-none}
 use Rattle.model.specs.Lists.{every, upTo, same}
 use Rattle.model.specs.Table.{free, held, entryFields, kindOf, slotBytes, readEntry, readSlot}
-use Rattle.model.proofs.ListLaws.{eqb-sym, same-refl, same-append, part-add, every-snoc}
+use Rattle.model.proofs.ListLaws.{eqb-sym, same-refl, same-append, part-add, every-next, every-index}
 use Rattle.layout.specs.Shape.{all, inUse, zerosAt, slotShape}
 use Rattle.layout.proofs.HeldLaws.{grows-no}
 
@@ -25,8 +25,8 @@ module _ (p : ℕ → Bool) where
   all-none = refl
 
   pub all-next : (i : ℕ) → all p (i + 1) ≡ all p i && p i
-  unfolding all upTo
-  all-next i = rw add-one (every-snoc p (upTo i (λ j. j)) i)
+  unfolding all
+  all-next i = every-next i (λ j. j) p
 
   pub all-more : (i : ℕ) → p i ≡ true → all p i ≡ true → all p (i + 1) ≡ true
   all-more i h a = rw (all-next i, a, h)
@@ -39,11 +39,8 @@ module _ (p : ℕ → Bool) where
   all-yes (suc n) h = rw (← add-one n) (all-more n (h n (omega arith)) (all-yes n (λ i l. h i (omega arith))))
 
   pub all-at : (n i : ℕ) → all p n ≡ true → i < n → p i ≡ true
-  all-at n i a l = go (p i) refl
-    where
-      go : (v : Bool) → p i ≡ v → p i ≡ true
-      go true e = e
-      go false e = let z : true ≡ false = sym a ∙ all-no n i l e in cc
+  unfolding all
+  all-at n i a l = every-index p n a i l
 
 pub same-cons : (x y : ℕ) (a b : List ℕ) → same (x ∷ a) (y ∷ b) ≡ eqb x y && same a b
 unfolding same

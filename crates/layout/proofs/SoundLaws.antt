@@ -1,28 +1,21 @@
 -- Soundness of bytes as what code tests, in its order. Assumes nothing.
-use Prim.Native.Nat.{ℕ, _+_, _≤_}
+use Prim.Native.Nat.{ℕ, _≤_}
 use mathlib.Core.Path.{_≡_, refl}
 use mathlib.Core.Bool.{Bool, true, false, _&&_, and-true, and-assoc}
 use mathlib.Core.List.{List}
 use lib.ListN.{length}
-use lib.Dec.{leb, ltb}
+use lib.Dec.{ltb}
 use borrow.Author.Tests.{le-leb}
 use Rattle.model.specs.Numbers.{bigEndian, Bytes}
-use Rattle.model.specs.Lists.{count, any, every, noTwo}
-use Rattle.model.specs.Table.{Line, readTable, readSlot, readLine, slotAt, lineAt, listed, sizeOf, slotsIn}
-use Rattle.model.specs.Rules.{Holding, reserve}
-use Rattle.model.specs.Sound.{validEntry, sameNumber, sameQuestion, Sound, soundRoster, soundHoldings, soundTable, soundBytes}
-use Rattle.model.proofs.ListLaws.{length-upTo, noTwo-or}
+use Rattle.model.specs.Table.{readTable, readSlot, readLine, slotAt, lineAt, listed, sizeOf, slotsIn}
+use Rattle.model.specs.Sound.{Sound, soundRoster, soundHoldings, soundTable, soundBytes}
+use Rattle.model.proofs.ListLaws.{length-upTo}
 use Rattle.model.proofs.RoundTrip.{listed-le}
-use Rattle.model.proofs.Meaning.{bytes-back, table-sound}
+use Rattle.model.proofs.Meaning.{bytes-back, table-sound, slots-read as slots-length}
 use Rattle.layout.specs.Shape.{tableShape, slotsTo, linesTo}
-use Rattle.layout.specs.Held.{heldTo, clash, within}
-use Rattle.layout.proofs.ReadLaws.{place-read, running-read, slots-length, formed-size}
+use Rattle.layout.specs.Held.{heldTo}
+use Rattle.layout.proofs.ReadLaws.{place-read, running-read, formed-size}
 use Rattle.layout.proofs.LayoutLaws.{layout-is, roster-read, slots-read}
-
-pub holdings-is : (n : ℕ) (ls : List Line) (hs : List Holding) → soundHoldings n ls hs
-    ≡ every validEntry hs && ((noTwo clash hs && every (within ls hs) hs) && leb (reserve ls (count hs) + count hs any) n)
-unfolding soundHoldings
-holdings-is n ls hs = rw (noTwo-or sameNumber sameQuestion hs) (simp and-assoc)
 
 module _ (b : List ℕ) (bytes : Bytes b) where
   module _ (n : ℕ) (size : length b ≡ sizeOf n) (lo : 1 ≤ n) (hi : n ≤ 64) where

@@ -1,39 +1,31 @@
 -- What the writers leave is the answer, and a call that answers meets the model. Assumes nothing.
-use Prim.Native.Nat.{ℕ, zero, suc, _+_, _-_, _*_, _≤_, _<_}
+use Prim.Native.Nat.{ℕ, _+_, _*_, _≤_, _<_}
 use native.Mathlib.Omega.{arith}
 use mathlib.Core.Path.{_≡_, refl, sym, ap, _∙_}
-use mathlib.Core.Bool.{Bool, true, false, cond, _&&_, _||_}
+use mathlib.Core.Bool.{Bool, true, false, cond}
 use mathlib.Core.List.{List, [], _∷_, _++_, append-nil}
 use lib.ListN.{length, drop}
-use lib.Dec.{eqb, leb, ltb}
 use Rattle.model.specs.Lists.{flat, upTo}
 use Rattle.model.specs.Numbers.{splice, bigEndian}
 use Rattle.model.specs.Clock.{cycle, validReading, placeOf, advance}
 use Rattle.model.specs.Query.{Question, LlqOption, qdcount, questionsEnd, matched, question, llqOption}
-use Rattle.model.specs.Table.{Table, tableBytes, readTable, sizeOf, slotsIn}
-use Rattle.model.specs.Sound.{Sound, soundBytes}
+use Rattle.model.specs.Table.{Table, tableBytes, readTable}
+use Rattle.model.specs.Sound.{soundBytes}
 use Rattle.model.specs.Serve.{Sender, Outcome, serveOption, movedOn, slotRunOut}
 use Rattle.model.specs.Reply.{optionBytes, replyBytes, replyLength, mismatch}
-use Rattle.model.specs.Calls.{MakeCall, ServeCall, tableLength, freedBy, freshTable}
+use Rattle.model.specs.Calls.{MakeCall, ServeCall, freedBy, freshTable}
 use Rattle.model.specs.Meets.{ServeMeets}
-use Rattle.model.proofs.ListLaws.{and-left, and-right, count-le, length-upTo}
-use Rattle.model.proofs.Meaning.{bytes-back, table-sound}
-use borrow.Author.Tests.{eqb-true}
+use Rattle.model.proofs.ListLaws.{count-le, length-upTo}
+use Rattle.model.proofs.Meaning.{table-sound}
 use Rattle.query.specs.Whole.{queryRefusal}
 use Rattle.table.specs.Written.{WellFormed, Written}
 use Rattle.table.specs.Fresh.{fresh}
 use Rattle.llq.specs.Answer.{Measures, Matches, tableFrom, outcomeFrom, frontBytes, tableDone, outcomesDone, Answers}
-use Rattle.llq.proofs.ReplyLaws.{length-matched, length-mismatched, length-option, length-options, options-next, reply-written}
+use Rattle.llq.proofs.ReplyLaws.{length-matched, length-mismatched, options-next, reply-written}
 use Rattle.llq.proofs.OrderLaws.{from-none, from-next, outcome-next, start, after-is, outcomes-is}
 use Rattle.llq.proofs.LadderLaws.{noRoom, serve-done}
 
 -- WHAT A SOUND TABLE GIVES
-
-pub formed-written : {b : List ℕ} {t : Table} → Written b t → WellFormed b
-formed-written w = ap tableBytes (w .read) ∙ sym (w .bytes)
-
-pub sound-formed : (b : List ℕ) → soundBytes b ≡ true → WellFormed b
-sound-formed = bytes-back
 
 pub sound-place : (b : List ℕ) → soundBytes b ≡ true → bigEndian b 1 4 < cycle
 unfolding readTable
@@ -94,7 +86,7 @@ module _ (s : Sender) (r : ℕ) (d b lent : List ℕ) (n end : ℕ) (v : Bool) (
       let f = outcomeFrom s r d (readTable b) in
       let size : questionsEnd d + 11 + 22 * qdcount d ≡ replyLength d = rw (h .end, h .count) at (length-matched d n end v h t e) in
       let k : n ≡ cond (matched d) (qdcount d) 0 = h .count ∙ sym (ap (λ (w : Bool). cond w (qdcount d) 0) m) in
-      let whole = reply-written d (upTo (qdcount d) f) (qdcount d) lent from within (length-upTo (qdcount d) f) (length-options (qdcount d) f) (omega (arith, size, fits)) in
+      let whole = reply-written d (upTo (qdcount d) f) (qdcount d) lent from within (length-upTo (qdcount d) f) (omega (arith, size, fits)) in
       let os : upTo (qdcount d) f ≡ outcomesDone s r d (readTable b) = sym (ap (λ (w : Bool). cond w (upTo (qdcount d) f) (mismatch ∷ [])) m) in
       record {
         table = w .bytes ∙ ap (λ (m : ℕ). tableBytes (tableFrom s r d (readTable b) m)) k;
@@ -111,7 +103,7 @@ module _ (s : Sender) (r : ℕ) (d b lent : List ℕ) (n end : ℕ) (v : Bool) (
       let f = outcomeFrom s r d (readTable b) in
       let size : questionsEnd d + 11 + 22 * 1 ≡ replyLength d = omega (arith, h .end, length-mismatched d n end v h t e) in
       let one : flat optionBytes (mismatch ∷ []) ≡ optionBytes mismatch = append-nil (optionBytes mismatch) in
-      let whole = reply-written d (mismatch ∷ []) 1 lent from within refl (ap length one ∙ length-option mismatch) (omega (arith, size, fits)) in
+      let whole = reply-written d (mismatch ∷ []) 1 lent from within refl (omega (arith, size, fits)) in
       let os : mismatch ∷ [] ≡ outcomesDone s r d (readTable b) = sym (ap (λ (w : Bool). cond w (upTo (qdcount d) f) (mismatch ∷ [])) m) in
       let bytes : left ≡ splice (questionsEnd d + 11) (22 * 1) (flat optionBytes (mismatch ∷ [])) (splice 0 (questionsEnd d + 11) (frontBytes d 1) lent) =
       rw one (rw (h .end) at l) in

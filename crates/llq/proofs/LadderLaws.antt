@@ -1,20 +1,21 @@
 -- Each way out of a call, refused or answered, is the model's. Assumes nothing.
-use Prim.Native.Nat.{ℕ, zero, suc, _+_, _*_, _≤_, _<_}
+use Prim.Native.Nat.{ℕ, zero, suc, _≤_, _<_}
 use native.Mathlib.Omega.{arith}
 use mathlib.Core.Path.{_≡_, refl, sym, ap, _∙_}
-use mathlib.Core.Bool.{Bool, true, false, not, cond, _||_}
+use mathlib.Core.Bool.{Bool, true, false, not, cond, _||_, or-true}
 use mathlib.Core.List.{List, [], _∷_, _++_}
 use lib.ListN.{length, drop}
-use lib.Dec.{eqb, leb, ltb}
+use lib.Dec.{eqb, ltb}
 use borrow.Author.Tests.{lt-ltb, le-ltb}
 use Rattle.model.specs.Clock.{validReading, placeOf}
 use Rattle.model.specs.Query.{wrongSize, goodHeader, goodQuestions, qdcount, goodOpt, questionsEnd, llqOptions}
-use Rattle.model.specs.Table.{Table, tableBytes, readTable, slotsIn}
+use Rattle.model.specs.Table.{tableBytes, readTable, slotsIn}
 use Rattle.model.specs.Sound.{soundBytes}
 use Rattle.model.specs.Serve.{movedOn}
 use Rattle.model.specs.Reply.{replyBytes, replyLength}
 use Rattle.model.specs.Calls.{MakeCall, TickCall, ServeCall, Made, Ticked, Answered, refusal, tableLength, goodRoster, makeRefusal, madeBy, make, freshTable, tickRefusal, tickedBy, tick, freedBy, serveRefusal, servedBy, serve, tableAfter, outcomes}
 use Rattle.model.specs.Meets.{MakeMeets, TickMeets, ServeMeets}
+use Rattle.model.proofs.CallLaws.{make-answered, tick-answered, serve-answered}
 use Rattle.query.specs.Whole.{queryRefusal}
 
 -- THE LADDER
@@ -42,10 +43,6 @@ sixth false false false false true f h = absurd (omega arith)
 sixth false false false false false f h = refl
 
 -- REFUSAL 8, of a reply of k bytes
-
-or-true : (a : Bool) → a || true ≡ true
-or-true true = refl
-or-true false = refl
 
 module _ (room k len : ℕ) (e : k ≡ len) where
   pub no-room : room < k → ltb room len || ltb 1472 len ≡ true
@@ -84,10 +81,9 @@ module _ (c : MakeCall) (b : List ℕ) where
 
   pub make-done : (after : List ℕ) → tableLength (length b) ≡ true → validReading (c .week) (c .second) ≡ true
       → goodRoster (slotsIn (length b)) (c .roster) ≡ true → after ≡ tableBytes (freshTable c (slotsIn (length b))) → MakeMeets c b after 0
-  unfolding refusal make
+  unfolding refusal
   make-done after e f g h =
-      let ladder : makeRefusal c (length b) ≡ 0 = make-ladder _ _ _ e f g in
-      let whole : make c b ≡ madeBy 0 c b = ap (λ (n : ℕ). madeBy n c b) ladder in
+      let whole : make c b ≡ madeBy 0 c b = make-answered c b (make-ladder _ _ _ e f g) in
       record { number = sym (ap (λ (m : Made). m .number) whole); table = h ∙ sym (ap (λ (m : Made). m .table) whole) }
 
 -- TICKING
@@ -117,10 +113,9 @@ module _ (c : TickCall) (b : List ℕ) where
   pub tick-done : (after : List ℕ) (k : ℕ) → soundBytes b ≡ true → validReading (c .week) (c .second) ≡ true
       → after ≡ tableBytes (movedOn (readTable b) (placeOf (c .week) (c .second))) → k ≡ freedBy (readTable b) (placeOf (c .week) (c .second))
       → TickMeets c b after 0 k
-  unfolding refusal tick
+  unfolding refusal
   tick-done after k e f h g =
-      let ladder : tickRefusal c b ≡ 0 = tick-ladder _ _ e f in
-      let whole : tick c b ≡ tickedBy 0 c b = ap (λ (n : ℕ). tickedBy n c b) ladder in
+      let whole : tick c b ≡ tickedBy 0 c b = tick-answered c b (tick-ladder _ _ e f) in
       record {
         number = sym (ap (λ (m : Ticked). m .number) whole);
         freed = g ∙ sym (ap (λ (m : Ticked). m .freed) whole);
@@ -185,10 +180,9 @@ module _ (c : ServeCall) (b reply : List ℕ) where
   pub serve-done : (after left : List ℕ) (k : ℕ) → soundBytes b ≡ true → validReading (c .week) (c .second) ≡ true → queryRefusal (c .datagram) ≡ 0
       → noRoom ≡ false → k ≡ replyLength (c .datagram) → after ≡ tableBytes (tableAfter c (readTable b))
       → left ≡ replyBytes (c .datagram) (outcomes c (readTable b)) ++ drop (replyLength (c .datagram)) reply → ServeMeets c b after reply left 0 k
-  unfolding serve
   serve-done after left k e f g h l m n =
-      let ladder : serveRefusal c b ≡ 0 = serve-ladder _ _ e f ∙ (rest-is g ∙ ap (λ (v : Bool). cond v 8 0) h) in
-      let whole : serve c b reply ≡ servedBy 0 c b reply = ap (λ (x : ℕ). servedBy x c b reply) ladder in
+      let whole : serve c b reply ≡ servedBy 0 c b reply =
+      serve-answered c b reply (serve-ladder _ _ e f ∙ (rest-is g ∙ ap (λ (v : Bool). cond v 8 0) h)) in
       record {
         number = sym (ap (λ (x : Answered). x .number) whole);
         length = l ∙ sym (ap (λ (x : Answered). x .length) whole);

@@ -114,6 +114,18 @@ by-address p (x ∷ l) a h = go (eqb (x .address) a) refl (by-address p l a (and
     go true e z = inr (ap p (sym (eqb-true (x .address) a e)) ∙ and-left (p (x .address)) (every (λ h. p (h .address)) l) h)
     go false e z = ⊎-elim (λ (w : count l (heldBy a) ≡ 0). inl (omega arith)) (λ (w : p a ≡ true). inr w) z
 
+-- no address holds more than its limit exactly if none of an entry does
+module _ (ls : List Line) (hs : List Holding) where
+  pub within-all : every (λ h. leb (count hs (heldBy (h .address))) (limitOf ls (h .address))) hs ≡ true → (a : ℕ) → count hs (heldBy a) ≤ limitOf ls a
+  within-all h a =
+      ⊎-elim
+      (λ (z : count hs (heldBy a) ≡ 0). omega arith)
+      (λ (z : leb (count hs (heldBy a)) (limitOf ls a) ≡ true). leb-true (count hs (heldBy a)) (limitOf ls a) z)
+      (by-address (λ a. leb (count hs (heldBy a)) (limitOf ls a)) hs a h)
+
+  pub all-within : ((a : ℕ) → count hs (heldBy a) ≤ limitOf ls a) → every (λ h. leb (count hs (heldBy (h .address))) (limitOf ls (h .address))) hs ≡ true
+  all-within h = every-all (λ h. leb (count hs (heldBy (h .address))) (limitOf ls (h .address))) hs (λ x. le-leb _ _ (h (x .address)))
+
 -- an entry rule of all is four, one for each sentence
 pub valid-parts : (hs : List Holding) → every validEntry hs ≡ every nonZeroNumber hs && every validLease hs && every live hs && every validName hs
 valid-parts hs =
@@ -205,11 +217,7 @@ module _ (t : Table) where
         ages = every-none live hs (and-right (e1 && e2) e3 v3);
         names = every-none validName hs (and-right (e1 && e2 && e3) e4 v4);
         questions = λ k. one-at-most sameQuestion (sameQuestion k) hs (same-question-via k) (and-right (h1 && h2) h3 k3);
-        limits = λ a.
-            ⊎-elim
-            (λ (z : count hs (heldBy a) ≡ 0). rw z (omega arith))
-            (λ (z : leb (count hs (heldBy a)) (limitOf ls a) ≡ true). leb-true (count hs (heldBy a)) (limitOf ls a) z)
-            (by-address (λ a. leb (count hs (heldBy a)) (limitOf ls a)) hs a (and-right (h1 && h2 && h3) h4 k4));
+        limits = within-all ls hs (and-right (h1 && h2 && h3) h4 k4);
         reserved = leb-true (reserve ls (count hs) + count hs any) n (and-right (h1 && h2 && h3 && h4) h5 k5);
       }
 
@@ -234,7 +242,6 @@ module _ (t : Table) where
         at-most-one sameNumber (holdings t) (λ x. eq-eqb (x .number) (x .number) refl)
             (λ x. rw (count-flip (λ (h : Holding). h .number) (holdings t) (x .number)) (f .numbers (x .number))),
         at-most-one sameQuestion (holdings t) same-question-refl (f .questions),
-        every-all (λ h. leb (count (holdings t) (heldBy (h .address))) (limitOf (t .roster) (h .address))) (holdings t)
-            (λ h. le-leb _ _ (f .limits (h .address))),
+        all-within (t .roster) (holdings t) (f .limits),
         le-leb _ _ (f .reserved),
       )

@@ -5,18 +5,18 @@ use native.Mathlib.Nat.{eq-or-lt-of-le}
 use native.Mathlib.Omega.{arith}
 use mathlib.Core.Path.{_≡_, refl, sym, ap, _∙_}
 use mathlib.Core.Bool.{Bool, true, false, not, cond, _&&_}
-use mathlib.Core.List.{List, [], _∷_, _++_, append-nil, map}
+use mathlib.Core.List.{List, [], _∷_, _++_, map}
 use mathlib.Core.Logic.{⊎-elim}
 use lib.ListN.{length, getD, set}
 use lib.Dec.{eqb, leb, ltb}
 use borrow.Author.Tests.{eqb-true, leb-true, leb-false, lt-ltb, le-ltb, ltb-true, ltb-false}
-use Rattle.model.specs.Lists.{bit, count, any, keep, indexOf, upTo}
+use Rattle.model.specs.Lists.{bit, count, any, keep, indexOf}
 use Rattle.model.specs.Clock.{ageAt}
 use Rattle.model.specs.Table.{Line, Entry, Slot, free, held, Table}
 use Rattle.model.specs.Rules.{Holding, holding, entriesOf, holdings, Counts, heldBy, shareOf, limitOf, reserve, full}
 use Rattle.model.specs.Sound.{live, Sound}
 use Rattle.model.specs.Serve.{slotRunOut, freeIfRunOut, isFree, has, findEntry, slotOf}
-use Rattle.model.proofs.ListLaws.{never, or-right, count-set, count-any, count-at, getD-past, upTo-next, index-le, index-hit, index-none, none-index, index-some, one-place}
+use Rattle.model.proofs.ListLaws.{never, or-right, count-set, count-any, count-at, getD-past, index-le, index-hit, index-none, index-some, one-place}
 
 -- FREE AND HELD
 
@@ -64,18 +64,6 @@ module _ (r : ℕ) where
   entries-append [] u = refl
   entries-append (free ∷ s) u = entries-append s u
   entries-append (held e ∷ s) u = ap {B = List Holding} (λ z. holding r e ∷ z) (entries-append s u)
-
-  pub entries-none : entriesOf r [] ≡ []
-  unfolding entriesOf
-  entries-none = refl
-
-  pub entries-hit : (n : ℕ) (f : ℕ → Slot) (e : Entry) → f n ≡ held e → entriesOf r (upTo (n + 1) f) ≡ entriesOf r (upTo n f) ++ (holding r e ∷ [])
-  unfolding entriesOf
-  entries-hit n f e h = rw (upTo-next n f, entries-append (upTo n f) (f n ∷ []), h)
-
-  pub entries-miss : (n : ℕ) (f : ℕ → Slot) → f n ≡ free → entriesOf r (upTo (n + 1) f) ≡ entriesOf r (upTo n f)
-  unfolding entriesOf
-  entries-miss n f h = rw (upTo-next n f, entries-append (upTo n f) (f n ∷ []), h) (append-nil (entriesOf r (upTo n f)))
 
   -- A SLOT WRITTEN OVER
 
@@ -149,10 +137,6 @@ module _ (r : ℕ) where
   unfolding has
   holds-has p s e q h = rw q h
 
-  pub free-has : (p : Holding → Bool) (s : Slot) → s ≡ free → has r p s ≡ false
-  unfolding has
-  free-has p s q = rw q
-
   -- an entry of the slots counts
   pub count-held : (s : List Slot) (i : ℕ) (e : Entry) (p : Holding → Bool) → getD s i free ≡ held e → p (holding r e) ≡ true
       → 1 ≤ count (entriesOf r s) p
@@ -202,14 +186,6 @@ module _ (p : Holding → Bool) (t : Table) where
       (λ (z : findEntry p t ≡ length (t .slots)). past-none z)
       (λ (z : findEntry p t < length (t .slots)). let f = found-entry z in not-held (f .entry) (sym q ∙ f .slot))
       (eq-or-lt-of-le find-le)
-
-  -- no entry passes: the slot found is free
-  pub none-past : count (holdings t) p ≡ 0 → findEntry p t ≡ length (t .slots)
-  unfolding findEntry
-  none-past h = none-index (has (t .clock .running) p) (t .slots) (sym (count-entries (t .clock .running) (t .slots) p) ∙ h)
-
-  pub none-found : count (holdings t) p ≡ 0 → slotOf t (findEntry p t) ≡ free
-  none-found h = getD-past (t .slots) (findEntry p t) free (omega (arith, none-past h))
 
   -- at most one entry passes: it is found where it is
   pub found-at : (i : ℕ) (e : Entry) → count (holdings t) p ≤ 1 → slotOf t i ≡ held e → p (holding (t .clock .running) e) ≡ true → findEntry p t ≡ i

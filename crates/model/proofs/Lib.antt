@@ -13,3 +13,4 @@ pub mod FreshLaws
 pub mod StepLaws
 pub mod QueryLaws
 pub mod CallLaws
+pub mod ReplyLaws

@@ -82,10 +82,6 @@ swap true false true d = refl
 swap true false false d = refl
 swap false b c d = refl
 
-pub not-or : (a b : Bool) → not (a || b) ≡ not a && not b
-not-or true b = refl
-not-or false b = refl
-
 pub not-and : (a b : Bool) → not (a && b) ≡ not a || not b
 not-and true b = refl
 not-and false b = refl
@@ -261,9 +257,6 @@ module _ {A : Type 0} where
   every-both p q [] = refl
   every-both p q (x ∷ l) = rw (every-both p q l) (swap (p x) (q x) (every p l) (every q l))
 
-  pub every-ext : (p q : A → Bool) (l : List A) → ((x : A) → p x ≡ q x) → every p l ≡ every q l
-  every-ext p q l h = ap (λ (f : A → Bool). every f l) (fun-ext h)
-
   pub noTwo-nil : (q : A → A → Bool) → noTwo q [] ≡ true
   unfolding noTwo
   noTwo-nil q = refl
@@ -275,21 +268,12 @@ module _ {A : Type 0} where
       rw (every-snoc (λ y. not (q x y)) l z, noTwo-snoc q l z)
       (swap (every (λ y. not (q x y)) l) (not (q x z)) (noTwo q l) (every (λ y. not (q y z)) l))
 
-  -- no two agree in one way or the other
-  pub noTwo-or : (p q : A → A → Bool) (l : List A) → noTwo (λ x y. p x y || q x y) l ≡ noTwo p l && noTwo q l
-  unfolding noTwo
-  noTwo-or p q [] = refl
-  noTwo-or p q (x ∷ l) =
-      rw (
-        noTwo-or p q l,
-        every-ext (λ y. not (p x y || q x y)) (λ y. not (p x y) && not (q x y)) l (λ y. not-or (p x y) (q x y)),
-        every-both (λ y. not (p x y)) (λ y. not (q x y)) l,
-      )
-      (swap (every (λ y. not (p x y)) l) (every (λ y. not (q x y)) l) (noTwo p l) (noTwo q l))
-
-  -- none passes a test that whoever agrees with x passes
+  -- where each that passes r passes q, none passes r if none passes q
   none-like : (q r : A → Bool) (l : List A) → every (λ y. not (q y)) l ≡ true → ((y : A) → r y ≡ true → q y ≡ true) → count l r ≡ 0
   none-like q r l h i = let z = every-not q l h in let m = count-mono l r q i in omega arith
+
+  pub none-of : (q r : A → Bool) (l : List A) → every (λ y. not (q y)) l ≡ true → ((y : A) → r y ≡ true → q y ≡ true) → every (λ y. not (r y)) l ≡ true
+  none-of q r l h i = not-every r l (none-like q r l h i)
 
   -- no two agree: at most one passes a test by which any two agree
   pub one-at-most : (q : A → A → Bool) (r : A → Bool) (l : List A) → ((x y : A) → r x ≡ true → r y ≡ true → q x y ≡ true) → noTwo q l ≡ true
@@ -352,9 +336,6 @@ module _ {A : Type 0} where
       ext-getD d (upTo (length l) (λ i. getD l i d)) l e (λ i h. getD-upTo (length l) (λ i. getD l i d) i d (rw e at h))
 
   -- one element more
-  pub count-next : (n : ℕ) (f : ℕ → A) (p : A → Bool) → count (upTo (n + 1) f) p ≡ count (upTo n f) p + bit (p (f n))
-  count-next n f p = rw (upTo-next n f, count-append (upTo n f) (f n ∷ []) p) (omega arith)
-
   pub every-next : (n : ℕ) (f : ℕ → A) (p : A → Bool) → every p (upTo (n + 1) f) ≡ every p (upTo n f) && p (f n)
   every-next n f p = rw (upTo-next n f) (every-snoc p (upTo n f) (f n))
 
@@ -501,11 +482,20 @@ module _ {A : Type 0} (f : A → List ℕ) where
   unfolding flat
   flat-snoc l x = rw (flat-append l (x ∷ []), append-nil)
 
+  -- one row more
+  pub flat-next : (n : ℕ) (g : ℕ → A) → flat f (upTo (n + 1) g) ≡ flat f (upTo n g) ++ f (g n)
+  flat-next n g = ap (flat f) (upTo-next n g) ∙ flat-snoc (upTo n g) (g n)
+
   module _ (w : ℕ) where
     pub length-flat : (l : List A) → ((i : ℕ) (d : A) → i < length l → length (f (getD l i d)) ≡ w) → length (flat f l) ≡ w * length l
     unfolding flat
     length-flat [] h = rw mul-zero
     length-flat (x ∷ l) h = rw (length-append, mul-suc, length-flat l (λ i d m. h (suc i) d (omega arith)), h 0 x (omega arith)) (omega arith)
+
+    pub length-rows : (n : ℕ) (g : ℕ → A) → ((i : ℕ) → i < n → length (f (g i)) ≡ w) → length (flat f (upTo n g)) ≡ w * n
+    length-rows n g h =
+        length-flat (upTo n g) (λ i d m. let m' : i < n = rw (length-upTo n g) at m in rw (getD-upTo n g i d m') (h i m'))
+        ∙ ap (λ (k : ℕ). w * k) (length-upTo n g)
 
     -- rows are the bytes exactly if each row is
     pub same-rows : (g : ℕ → A) (b : List ℕ) (at n : ℕ) → ((i : ℕ) → i < n → length (f (g i)) ≡ w) → at + w * n ≤ length b
@@ -516,9 +506,7 @@ module _ {A : Type 0} (f : A → List ℕ) where
         let l' : at + (w * n + w) ≤ length b = rw mul-suc at l in
         let ll : at + w * n ≤ length b = omega arith in
         let len : length (flat f (upTo n g)) ≡ length (part at (w * n) b) =
-        length-flat (upTo n g)
-        (λ i d m. let m' : i < n = rw (length-upTo n g) at m in rw (getD-upTo n g i d m') (h i (omega arith)))
-        ∙ ap (λ (k : ℕ). w * k) (length-upTo n g) ∙ sym (length-part at (w * n) b ll) in
+        length-rows n g (λ i m. h i (omega arith)) ∙ sym (length-part at (w * n) b ll) in
         rw (
           flat-snoc (upTo n g) (g n),
           mul-suc,

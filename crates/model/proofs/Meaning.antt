@@ -12,7 +12,6 @@ use Rattle.model.specs.Table.{free, held, Table, tableBytes, readTable, 
 use Rattle.model.specs.Sound.{FitsEntry, FitsSlot, FitsLine, Fits, Sound, SoundBytes, soundTable, soundBytes}
 use Rattle.model.proofs.NumberLaws.{big-lt, bytes-part}
 use Rattle.model.proofs.ListLaws.{and-left, and-right, same-true, same-refl, length-upTo, getD-upTo}
-use Rattle.model.proofs.TableLaws.{length-table}
 use Rattle.model.proofs.RoundTrip.{noLine, table-back, listed-le}
 use Rattle.model.proofs.Facts.{sound-facts, facts-sound}
 
@@ -67,6 +66,9 @@ pub slots-read : (b : List ℕ) → length (readTable b .slots) ≡ slotsIn (len
 unfolding readTable
 slots-read b = length-upTo (slotsIn (length b)) (λ j. readSlot b (slotAt j))
 
+pub slots-count : (b : List ℕ) (n : ℕ) → length b ≡ sizeOf n → length (readTable b .slots) ≡ n
+slots-count b n size = slots-read b ∙ (omega arith)
+
 -- SOUND BYTES are the bytes of a sound table
 
 -- they are those of the table that they are read as
@@ -92,7 +94,3 @@ means-sound b s = rw (read-stored b s, s .bytes, same-refl b) (facts-sound (s .t
 -- the bytes of a sound table are sound
 pub bytes-sound : (t : Table) → Sound t → Fits t → soundBytes (tableBytes t) ≡ true
 bytes-sound t s f = means-sound (tableBytes t) (record { table = t; sound = s; fits = f; bytes = refl })
-
--- sound bytes have a right length
-pub length-sound : (b : List ℕ) → Bytes b → soundBytes b ≡ true → length b ≡ sizeOf (length (readTable b .slots))
-length-sound b bytes h = sym (ap length (bytes-back b h)) ∙ length-table (readTable b) (lines-read b) (fits-read b bytes)

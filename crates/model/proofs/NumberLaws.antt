@@ -1,25 +1,14 @@
 -- The laws of Numbers: what is written is read, and parts and splices of a list. Assumes nothing.
 use Prim.Native.Nat.{ℕ, zero, suc, _+_, _-_, _*_, _/_, _%_, _^_, _≤_, _<_}
-use native.Mathlib.Nat.{zero-add, sub-zero, zero-sub, suc-sub-suc, add-assoc, pow-le-pow-right, pow-suc, add-zero, add-suc}
+use native.Mathlib.Nat.{zero-add, add-assoc, pow-suc, add-zero, add-suc}
 use native.Mathlib.Omega.{arith}
 use lib.Dec.{lit<}
 use mathlib.Core.Path.{_≡_, refl, sym, ap, _∙_}
-use mathlib.Core.List.{List, [], _∷_, _++_, append-assoc}
-use lib.ListN.{length, take, drop, getD, set, length-append, length-take, length-drop, length-set, take-append-drop, List·getD-append, replicate}
-use lib.Seq.{take-set-le, drop-set-lt, drop-cons, take-suc, getD-set-same, getD-drop, getD-take, getD-at, take-at, drop-at, getD-append-add, length-take-le, drop-drop, take-take, set-split, set-at, take-length}
+use mathlib.Core.List.{List, [], _∷_, _++_, append-assoc, append-nil}
+use lib.ListN.{length, take, drop, getD, set, length-append, length-take, length-drop, length-set, take-append-drop, drop-of-length-le, replicate}
+use lib.Seq.{take-set-le, drop-set-lt, drop-cons, take-suc, getD-set-same, getD-drop, getD-take, getD-at, take-at, drop-at, getD-append-add, length-take-le, drop-drop, set-split, set-at, take-length}
 use native.Mathlib.Numerals.{add-one}
 use Rattle.model.specs.Numbers.{bigEndian, Bytes, bytesOf, part, splice, encode, total, offset, writes}
-
--- one more byte: what a turn of the reader adds
-pub big-more : (s : List ℕ) (at k : ℕ) → bigEndian s at (suc k) ≡ bigEndian s at k * 256 + getD s (at + k) 0
-unfolding bigEndian
-big-more s at k = refl
-
--- a number of fewer than k bytes, k at most 8, has room for one byte more
-pub room : (i : ℕ) {r : ℕ} → r < 256 ^ i → i < 8 → r < 256 ^ 7
-room i {r} h l =
-    let le : i ≤ 7 = omega arith in
-    let p : 256 ^ i ≤ 256 ^ 7 = pow-le-pow-right (lit< tt) le in omega arith
 
 pub more : (i : ℕ) {r b : ℕ} → r < 256 ^ i → b < 256 → r * 256 + b < 256 ^ suc i
 more i {r} {b} h l = rw pow-suc (omega arith)
@@ -105,52 +94,6 @@ pub length-splice : (at k : ℕ) (vs s : List ℕ) → length vs ≡ k → at + 
 unfolding splice
 length-splice at k vs s e h = simp (length-append, length-take, length-drop) (omega arith)
 
-pub getD-splice-in : (at k : ℕ) (vs s : List ℕ) (i : ℕ) → length vs ≡ k → at + k ≤ length s → i < k → getD (splice at k vs s) (at + i) 0 ≡ getD vs i 0
-unfolding splice
-getD-splice-in at k vs s i e h l =
-    let t : length (take at s) ≡ at = length-take-le at s (omega arith) in
-    let v : i < length vs = omega arith in
-    (rw t at (getD-append-add (take at s) (vs ++ drop (at + k) s) i 0)) ∙ List·getD-append vs (drop (at + k) s) 0 i v
-
-pub getD-splice-below : (at k : ℕ) (vs s : List ℕ) (i : ℕ) → at ≤ length s → i < at → getD (splice at k vs s) i 0 ≡ getD s i 0
-unfolding splice
-getD-splice-below at k vs s i h l =
-    let t : i < length (take at s) = rw (length-take-le at s h) l in
-    List·getD-append (take at s) (vs ++ drop (at + k) s) 0 i t ∙ getD-take at s i 0 l
-
-pub drop-splice : (at k : ℕ) (vs s : List ℕ) → length vs ≡ k → at + k ≤ length s → drop (at + k) (splice at k vs s) ≡ drop (at + k) s
-unfolding splice
-drop-splice at k vs s e h =
-    let t : length (take at s ++ vs) ≡ at + k = simp (length-append, length-take) (omega arith) in
-    rw (← append-assoc (take at s) vs (drop (at + k) s), drop-at (take at s ++ vs) (drop (at + k) s) (at + k) t)
-
-pub take-splice : (at k : ℕ) (vs s : List ℕ) → at ≤ length s → take at (splice at k vs s) ≡ take at s
-unfolding splice
-take-splice at k vs s h = take-at (take at s) (vs ++ drop (at + k) s) at (length-take-le at s h)
-
-pub part-splice-same : (at k : ℕ) (vs s : List ℕ) → length vs ≡ k → at ≤ length s → part at k (splice at k vs s) ≡ vs
-unfolding splice part
-part-splice-same at k vs s e h =
-    rw (drop-at (take at s) (vs ++ drop (at + k) s) at (length-take-le at s h), take-at vs (drop (at + k) s) k e)
-
-take-drop : (b m n : ℕ) (s : List ℕ) → b + m ≤ n → take m (drop b s) ≡ take m (drop b (take n s))
-take-drop zero m n s l = sym (take-take m n s (omega arith))
-take-drop (suc b) m zero s l = absurd (omega arith)
-take-drop (suc b) m (suc n) [] l = refl
-take-drop (suc b) m (suc n) (x ∷ s) l = take-drop b m n s (omega arith)
-
--- a part that ends before the place, or begins after it, is as it was
-pub part-splice-before : (b m at k : ℕ) (vs s : List ℕ) → at ≤ length s → b + m ≤ at → part b m (splice at k vs s) ≡ part b m s
-unfolding part
-part-splice-before b m at k vs s h l =
-    take-drop b m at (splice at k vs s) l ∙ ap (λ (t : List ℕ). take m (drop b t)) (take-splice at k vs s h) ∙ sym (take-drop b m at s l)
-
-pub part-splice-after : (b m at k : ℕ) (vs s : List ℕ) → length vs ≡ k → at + k ≤ length s → at + k ≤ b → part b m (splice at k vs s) ≡ part b m s
-unfolding part
-part-splice-after b m at k vs s e h l =
-    let r : at + k + (b - (at + k)) ≡ b = omega arith in
-    rw (← r, ← drop-drop (b - (at + k)) (at + k) (splice at k vs s), drop-splice at k vs s e h, drop-drop (b - (at + k)) (at + k) s)
-
 pub big-ext : (s t : List ℕ) (a b k : ℕ) → ((i : ℕ) → i < k → getD s (a + i) 0 ≡ getD t (b + i) 0) → bigEndian s a k ≡ bigEndian t b k
 unfolding bigEndian
 big-ext s t a b zero h = refl
@@ -160,15 +103,23 @@ pub big-part : (s : List ℕ) (b m at k : ℕ) → at + k ≤ m → bigEndian (p
 big-part s b m at k l =
     big-ext (part b m s) s at (b + at) k (λ i h. getD-part b m s (at + i) (omega arith) ∙ ap (λ (j : ℕ). getD s j 0) (omega arith))
 
--- what `&t[a..e]` is, with e = a + k: the part of k elements from a
-pub part-is : (t : List ℕ) (k : ℕ) {a b : ℕ} → a ≡ b → take (a + k - a) (drop a t) ≡ part b k t
-unfolding part
-part-is t k {a} {b} e = let d : a + k - a ≡ k = omega arith in rw (d, e)
-
 -- what the whole is once `&mut t[a..e]`, with e = a + k, has come back holding vs
 pub lent-is : (t : List ℕ) (k : ℕ) {a b : ℕ} {vs ws : List ℕ} → a ≡ b → vs ≡ ws → take a t ++ (vs ++ drop (a + k - a) (drop a t)) ≡ splice b k ws t
 unfolding splice
 lent-is t k {a} {b} e f = let d : a + k - a ≡ k = omega arith in rw (d, drop-drop, e, f)
+
+-- all of it written over
+pub splice-all : (n : ℕ) (vs s : List ℕ) → length s ≡ n → splice 0 n vs s ≡ vs
+unfolding splice
+splice-all n vs s h = let e : length s ≤ 0 + n = omega arith in rw (drop-of-length-le s e) (append-nil vs)
+
+-- what stands behind a elements and before q written over
+pub splice-mid : (p m q vs : List ℕ) (a k : ℕ) → length p ≡ a → length m ≡ k → splice a k vs (p ++ (m ++ q)) ≡ p ++ (vs ++ q)
+unfolding splice
+splice-mid p m q vs a k e f =
+    let l : length (p ++ m) ≡ a + k = length-append p m ∙ (rw (e, f)) in
+    let d : drop (a + k) (p ++ (m ++ q)) ≡ q = ap (drop (a + k)) (sym (append-assoc p m q)) ∙ drop-at (p ++ m) q (a + k) l in
+    rw (take-at p (m ++ q) a e, d)
 
 -- records of fields
 
@@ -273,11 +224,6 @@ pub part-all : (s : List ℕ) → part 0 (length s) s ≡ s
 unfolding part
 part-all s = take-length s
 
-pub drop-replicate : (n m x : ℕ) → drop m (replicate n x) ≡ replicate (n - m) x
-drop-replicate n zero x = rw (sub-zero n)
-drop-replicate zero (suc m) x = rw (zero-sub (suc m))
-drop-replicate (suc n) (suc m) x = rw (suc-sub-suc n m) (drop-replicate n m x)
-
 -- what is written behind the first k bytes
 pub splice-on : (k j : ℕ) (us vs s : List ℕ) → length us ≡ k → k + j ≤ length s → splice k j vs (splice 0 k us s) ≡ splice 0 (k + j) (us ++ vs) s
 splice-on k j us vs s e h = rw (zero-add k) at (splice-splice 0 k j us vs s e (omega arith))
@@ -308,11 +254,6 @@ bytes-drop n s p i = rw getD-drop (p (n + i))
 pub bytes-part : (at k : ℕ) (s : List ℕ) → Bytes s → Bytes (part at k s)
 unfolding part
 bytes-part at k s p = bytes-take k (drop at s) (bytes-drop at s p)
-
-pub bytes-splice : (at k : ℕ) (vs s : List ℕ) → Bytes vs → Bytes s → Bytes (splice at k vs s)
-unfolding splice
-bytes-splice at k vs s p q =
-    bytes-append (take at s) (vs ++ drop (at + k) s) (bytes-take at s q) (bytes-append vs (drop (at + k) s) p (bytes-drop (at + k) s q))
 
 pub bytes-of : (k x : ℕ) → Bytes (bytesOf k x)
 unfolding bytesOf

@@ -9,7 +9,7 @@ use lib.ListN.{length, getD, replicate, length-append, length-replicate}
 use lib.Seq.{getD-at, take-at, drop-at}
 use lib.Dec.{eqb, lit<}
 use Rattle.model.specs.Numbers.{bigEndian, part, encode, offset}
-use Rattle.model.specs.Table.{Line, Entry, Slot, free, held, entryFields, kindOf, slotBytes, lineBytes, readLine, readEntry, readSlot}
+use Rattle.model.specs.Table.{Line, Entry, Slot, free, held, entryFields, kindOf, slotBytes, lineBytes, unusedLine, readLine, readEntry, readSlot}
 use Rattle.model.specs.Sound.{FitsEntry, FitsSlot, FitsLine}
 use Rattle.model.proofs.NumberLaws.{length-encode, big-one, big-skip, field-at}
 
@@ -27,7 +27,11 @@ pub length-line : (l : Line) → length (lineBytes l) ≡ 19
 unfolding lineBytes
 length-line l = length-encode _
 
-kind-lt : (b : Bool) → kindOf b < 256 ^ 1
+pub length-unused : length unusedLine ≡ 19
+unfolding unusedLine
+length-unused = refl
+
+pub kind-lt : (b : Bool) → kindOf b < 256
 kind-lt true = lit< tt
 kind-lt false = lit< tt
 

@@ -16,7 +16,7 @@ use Rattle.model.specs.Query.{Question, LlqOption, goodQuestion, questio
 use Rattle.model.specs.Table.{Entry, Slot, free, held, Table}
 use Rattle.model.specs.Rules.{Holding, holding, entriesOf, holdings, asks, full, grantedLease}
 use Rattle.model.specs.Sound.{live, validLease, FitsEntry, FitsSlot, Fits, Sound}
-use Rattle.model.specs.Serve.{withClock, withSlot, slotRunOut, freeIfRunOut, freeRunOut, movedOn, isFree, findEntry, slotOf, Sender, Kind, badVersion, badFormat, setup, response, refresh, Served, kindOfOption, newEntry, retryLater, granted, establish, renew, answers, refreshes, onSetup, serveSetup, onResponse, serveResponse, onRefresh, serveRefresh, serveKind, serveOption}
+use Rattle.model.specs.Serve.{withClock, withSlots, withSlot, slotRunOut, freeIfRunOut, freeRunOut, movedOn, isFree, findEntry, slotOf, Sender, Kind, badVersion, badFormat, setup, response, refresh, Served, kindOfOption, newEntry, retryLater, granted, establish, renew, answers, refreshes, onSetup, serveSetup, onResponse, serveResponse, onRefresh, serveRefresh, serveKind, serveOption}
 use Rattle.model.proofs.ListLaws.{test, and-left, and-right, none-every, count-both, getD-past, length-map}
 use Rattle.model.proofs.ClockLaws.{advance-place, advance-running, ages}
 use Rattle.model.proofs.NameLaws.{question-short, question-bytes, question-qtype, question-qclass}
@@ -105,34 +105,28 @@ map-fits g ok [] h j l = absurd (omega arith)
 map-fits g ok (y ∷ s) h zero l = ok y (h 0 l)
 map-fits g ok (y ∷ s) h (suc j) l = map-fits g ok s (λ k m. h (suc k) (omega arith)) j (omega arith)
 
-freed-fits : (r : ℕ) (x : Slot) → FitsSlot x → FitsSlot (freeIfRunOut r x)
+pub freed-fits : (r : ℕ) (x : Slot) → FitsSlot x → FitsSlot (freeIfRunOut r x)
 freed-fits r x f = go (slotRunOut r x)
   where
     go : (v : Bool) → FitsSlot (cond v free x)
     go true = tt
     go false = f
 
+pub fits-with-slots : (t : Table) (s : List Slot) → Fits t → ((j : ℕ) → j < length s → FitsSlot (getD s j free)) → Fits (withSlots t s)
+fits-with-slots t s f g = record { place = f .place; running = f .running; lines = f .lines; slots = g }
+
 pub fits-with-slot : (t : Table) (i : ℕ) (x : Slot) → Fits t → FitsSlot x → Fits (withSlot t i x)
 fits-with-slot t i x f g =
-    record {
-      place = f .place;
-      running = f .running;
-      lines = f .lines;
-      slots = λ j l. set-fits (t .slots) i x g (f .slots) j (rw (length-set (t .slots) i x) at l);
-    }
+    fits-with-slots t (set (t .slots) i x) f (λ j l. set-fits (t .slots) i x g (f .slots) j (rw (length-set (t .slots) i x) at l))
 
 pub fits-with-clock : (t : Table) (c : Clock) → Fits t → c .place < 256 ^ 4 → c .running < 256 ^ 4 → Fits (withClock t c)
 fits-with-clock t c f p r = record { place = p; running = r; lines = f .lines; slots = f .slots }
 
 pub fits-free : (t : Table) → Fits t → Fits (freeRunOut t)
 fits-free t f =
-    record {
-      place = f .place;
-      running = f .running;
-      lines = f .lines;
-      slots = λ j l. map-fits (freeIfRunOut (t .clock .running)) (freed-fits (t .clock .running)) (t .slots) (f .slots) j
-          (rw (length-map (freeIfRunOut (t .clock .running)) (t .slots)) at l);
-    }
+    let g = freeIfRunOut (t .clock .running) in
+    fits-with-slots t (map g (t .slots)) f
+    (λ j l. map-fits g (freed-fits (t .clock .running)) (t .slots) (f .slots) j (rw (length-map g (t .slots)) at l))
 
 pub fits-slot-of : (t : Table) (i : ℕ) → Fits t → FitsSlot (slotOf t i)
 fits-slot-of t i f = go (ltb i (length (t .slots))) refl
@@ -151,10 +145,6 @@ module _ (t : Table) (to : ℕ) where
   pub moved-roster : movedOn t to .roster ≡ t .roster
   unfolding movedOn
   moved-roster = refl
-
-  pub moved-slots : movedOn t to .slots ≡ map (freeIfRunOut (advance (t .clock) to .running)) (t .slots)
-  unfolding movedOn
-  moved-slots = refl
 
   pub moved-length : length (movedOn t to .slots) ≡ length (t .slots)
   unfolding movedOn

@@ -1,10 +1,12 @@
 -- The table's bytes: their length, and what a slot or the clock written over makes of them. Assumes nothing.
 use Prim.Native.Nat.{ℕ, suc, _+_, _-_, _*_, _≤_, _<_}
+use native.Mathlib.Nat.{mul-suc, mul-zero}
+use native.Mathlib.Numerals.{add-one}
 use native.Mathlib.Omega.{arith}
 use mathlib.Core.Path.{_≡_, refl, sym, ap, _∙_}
 use mathlib.Core.List.{List, [], _∷_, _++_, append-assoc}
 use lib.ListN.{length, getD, take, drop, set, replicate, length-append}
-use lib.Seq.{split-at, set-split, take-at, drop-at, length-take-le, getD-take}
+use lib.Seq.{split-at, set-split, length-take-le, getD-take}
 use lib.Dec.{lit<}
 use Rattle.model.specs.Lists.{upTo, flat}
 use Rattle.model.specs.Numbers.{Bytes, splice, encode}
@@ -12,9 +14,9 @@ use Rattle.model.specs.Clock.{Clock}
 use Rattle.model.specs.Table.{Line, Slot, free, held, Table, slotBytes, lineBytes, unusedLine, rosterBytes, clockBytes, tableBytes, slotAt, sizeOf}
 use Rattle.model.specs.Sound.{FitsSlot, Fits}
 use Rattle.model.specs.Serve.{withSlot, withClock}
-use Rattle.model.proofs.NumberLaws.{length-encode, encode-first, bytes-nil, bytes-append, bytes-cons, bytes-encode, bytes-zeros}
-use Rattle.model.proofs.ListLaws.{getD-any, length-upTo, flat-append, length-flat}
-use Rattle.model.proofs.SlotLaws.{fits-short, length-slot, length-line}
+use Rattle.model.proofs.NumberLaws.{splice-none, splice-splice, splice-mid, length-encode, encode-first, bytes-nil, bytes-append, bytes-cons, bytes-encode, bytes-zeros}
+use Rattle.model.proofs.ListLaws.{getD-any, upTo-none, flat-append, flat-next, length-flat, length-rows}
+use Rattle.model.proofs.SlotLaws.{fits-short, length-slot, length-line, length-unused}
 
 -- ROWS of one width
 module _ {A : Type 0} (f : A → List ℕ) where
@@ -30,31 +32,36 @@ module _ {A : Type 0} (f : A → List ℕ) where
 
     -- a row replaced, behind a head of k bytes
     pub flat-set : (p : List ℕ) (k i : ℕ) (x : A) → length p ≡ k → i < length l → splice (k + w * i) w (f x) (p ++ flat f l) ≡ p ++ flat f (set l i x)
-    unfolding splice flat
+    unfolding flat
     flat-set p k i x pk h =
         let e : flat f l ≡ flat f (take i l) ++ (f (getD l i x) ++ flat f (drop (suc i) l)) = flat-cut l i x h in
         let s : flat f (set l i x) ≡ flat f (take i l) ++ (f x ++ flat f (drop (suc i) l)) =
         ap (flat f) (set-split l i x h) ∙ flat-append f (take i l) (x ∷ drop (suc i) l) in
         let lp : length (p ++ flat f (take i l)) ≡ k + w * i = length-append p (flat f (take i l)) ∙ (rw (pk, length-front i (omega arith))) in
-        let lq : length ((p ++ flat f (take i l)) ++ f (getD l i x)) ≡ k + w * i + w =
-        length-append (p ++ flat f (take i l)) (f (getD l i x)) ∙ (rw (lp, ok i x h)) in
         let whole : p ++ flat f l ≡ (p ++ flat f (take i l)) ++ (f (getD l i x) ++ flat f (drop (suc i) l)) = rw (e, append-assoc) in
-        let whole2 : p ++ flat f l ≡ ((p ++ flat f (take i l)) ++ f (getD l i x)) ++ flat f (drop (suc i) l) =
-        rw (whole, append-assoc (p ++ flat f (take i l)) (f (getD l i x)) (flat f (drop (suc i) l))) in
-        let front : take (k + w * i) (p ++ flat f l) ≡ p ++ flat f (take i l) =
-        ap (take (k + w * i)) whole ∙ take-at (p ++ flat f (take i l)) (f (getD l i x) ++ flat f (drop (suc i) l)) (k + w * i) lp in
-        let back : drop (k + w * i + w) (p ++ flat f l) ≡ flat f (drop (suc i) l) =
-        ap (drop (k + w * i + w)) whole2 ∙ drop-at ((p ++ flat f (take i l)) ++ f (getD l i x)) (flat f (drop (suc i) l)) (k + w * i + w) lq in
-        rw (front, back, s, append-assoc)
+        rw (whole, s)
+        (splice-mid (p ++ flat f (take i l)) (f (getD l i x)) (flat f (drop (suc i) l)) (f x) (k + w * i) w lp (ok i x h)
+        ∙ append-assoc p (flat f (take i l)) (f x ++ flat f (drop (suc i) l)))
+
+  -- rows written one after the other from index at
+  module _ (w : ℕ) (g : ℕ → A) (at : ℕ) (s : List ℕ) where
+    pub rows-none : splice at (w * 0) (flat f (upTo 0 g)) s ≡ s
+    unfolding flat
+    rows-none = rw (mul-zero, upTo-none g) (splice-none at s)
+
+    pub rows-next : (i : ℕ) → ((j : ℕ) → length (f (g j)) ≡ w) → at + w * (i + 1) ≤ length s
+        → splice (at + w * i) w (f (g i)) (splice at (w * i) (flat f (upTo i g)) s) ≡ splice at (w * (i + 1)) (flat f (upTo (i + 1) g)) s
+    rows-next i ok h =
+        let e : w * (i + 1) ≡ w * i + w = rw (add-one, mul-suc) in
+        rw (e, flat-next f i g) (splice-splice at (w * i) w (flat f (upTo i g)) (f (g i)) s (length-rows f w i g (λ j l. ok j)) (rw e at h))
 
 -- LENGTHS
 pub length-roster : (ls : List Line) → length ls ≤ 16 → length (rosterBytes ls) ≡ 304
-unfolding rosterBytes unusedLine
+unfolding rosterBytes
 length-roster ls h =
     let l1 = length-flat lineBytes 19 ls (λ i d l. length-line (getD ls i d)) in
-    let l2 = length-flat (λ (i : ℕ). unusedLine) 19 (upTo (16 - length ls) (λ i. i)) (λ i d l. refl) in
-    let l3 : length (upTo (16 - length ls) (λ i. i)) ≡ 16 - length ls = length-upTo (16 - length ls) (λ i. i) in
-    rw (length-append, l1, l2, l3) (omega arith)
+    let l2 = length-rows (λ (i : ℕ). unusedLine) 19 (16 - length ls) (λ i. i) (λ i l. length-unused) in
+    rw (length-append, l1, l2) (omega arith)
 
 pub length-clock : (c : Clock) → length (clockBytes c) ≡ 9
 unfolding clockBytes
@@ -132,11 +139,9 @@ unfolding clockBytes
 clock-starts c = encode-first 1 (clockFields c) (lit< tt)
 
 over-clock : (c d : Clock) (q : List ℕ) → splice 1 8 (encode (clockFields d)) (clockBytes c ++ q) ≡ clockBytes d ++ q
-unfolding splice
 over-clock c d q =
-    let back : drop 9 (clockBytes c ++ q) ≡ q = drop-at (clockBytes c) q 9 (length-clock c) in
-    let front : take 1 (clockBytes c ++ q) ≡ 1 ∷ [] = ap (λ (z : List ℕ). take 1 (z ++ q)) (clock-starts c) in
-    rw (back, front, clock-starts d)
+    rw (clock-starts c, clock-starts d)
+    (splice-mid (1 ∷ []) (encode (clockFields c)) q (encode (clockFields d)) 1 8 refl (length-encode (clockFields c)))
 
 pub with-clock : (t : Table) (c : Clock) → splice 1 8 (encode (clockFields c)) (tableBytes t) ≡ tableBytes (withClock t c)
 unfolding tableBytes

@@ -1,33 +1,29 @@
 -- Laws of the code of this crate: numbers as chains of bytes, zeros and equal bytes step by step. Assumes nothing.
-use Prim.Native.Nat.{ℕ, zero, suc, _+_, _-_, _*_, _/_, _%_, _≤_, _<_}
-use native.Mathlib.Nat.{add-zero}
+use Prim.Native.Nat.{ℕ, zero, suc, _+_, _*_, _/_, _%_, _≤_, _<_}
+use native.Mathlib.Numerals.{add-one}
 use native.Mathlib.Omega.{arith}
-use mathlib.Core.Path.{_≡_, refl, sym, ap, _∙_}
+use mathlib.Core.Path.{_≡_, sym, ap, _∙_}
 use mathlib.Core.Bool.{Bool, true, false, _&&_, and-true}
-use mathlib.Core.Logic.{_⊎_, inl, inr, ⊎-elim}
-use mathlib.Core.List.{List, [], _∷_, _++_}
+use mathlib.Core.Logic.{⊎-elim}
+use mathlib.Core.List.{List, _++_}
 use lib.ListN.{length, getD, set, replicate, length-set, length-replicate, replicate-append-replicate}
 use lib.Dec.{eqb}
+use borrow.Author.Tests.{eqb-true, eq-eqb}
 use lib.Seq.{drop-cons}
 use Rattle.model.specs.Lists.{same}
 use Rattle.model.specs.Numbers.{bigEndian, bytesOf, Bytes, part, splice}
-use Rattle.model.proofs.NumberLaws.{put-step, splice-none, bytes-big, big-ext, getD-part, length-part, splice-next}
-use Rattle.model.proofs.ListLaws.{same-refl, same-true, same-append, part-add, test, eqb-sym}
+use Rattle.model.proofs.NumberLaws.{put-step, splice-none, bytes-big, big-ext, big-one, getD-part, length-part, part-none, splice-next}
+use Rattle.model.proofs.ListLaws.{iff, and-left, and-right, and-both, same-refl, same-true, same-append, part-add, test, eqb-sym}
 
--- a number of two, four or eight bytes as one chain
-pub chain2 : (s : List ℕ) (at : ℕ) → getD s at 0 * 256 + getD s (at + 1) 0 ≡ bigEndian s at 2
-unfolding bigEndian
-chain2 s at = rw (add-zero at) (omega arith)
+-- the byte at an index and the k behind it as one chain
+abbrev pub chain : ℕ → List ℕ → ℕ → ℕ
+chain zero s at = getD s at 0
+chain (suc k) s at = chain k s at * 256 + getD s (at + suc k) 0
 
-pub chain4 : (s : List ℕ) (at : ℕ) → ((getD s at 0 * 256 + getD s (at + 1) 0) * 256 + getD s (at + 2) 0) * 256 + getD s (at + 3) 0 ≡ bigEndian s at 4
+pub chain-is : (k : ℕ) (s : List ℕ) (at : ℕ) → chain k s at ≡ bigEndian s at (suc k)
 unfolding bigEndian
-chain4 s at = rw (add-zero at) (omega arith)
-
-pub chain8 : (s : List ℕ) (at : ℕ)
-    → ((((((getD s at 0 * 256 + getD s (at + 1) 0) * 256 + getD s (at + 2) 0) * 256 + getD s (at + 3) 0) * 256 + getD s (at + 4) 0) * 256
-    + getD s (at + 5) 0) * 256 + getD s (at + 6) 0) * 256 + getD s (at + 7) 0 ≡ bigEndian s at 8
-unfolding bigEndian
-chain8 s at = rw (add-zero at) (omega arith)
+chain-is zero s at = sym (big-one s at)
+chain-is (suc k) s at = ap (λ (x : ℕ). x * 256 + getD s (at + suc k) 0) (chain-is k s at)
 
 -- the last k bytes of x stored one by one, the least significant first
 abbrev pub stores : ℕ → ℕ → List ℕ → ℕ → List ℕ
@@ -78,14 +74,18 @@ module _ (s t : List ℕ) (a b : ℕ) where
 abbrev pub noughts : ℕ → List ℕ
 noughts n = replicate n 0
 
-pub length-zeros : (n : ℕ) → length (noughts n) ≡ n
-length-zeros n = length-replicate n 0
-
 -- a turn of a clearing
 pub clear-step : (at i : ℕ) (s : List ℕ) → at + i < length s → set (splice at i (noughts i) s) (at + i) 0 ≡ splice at (i + 1) (noughts (i + 1)) s
 clear-step at i s h =
-    splice-next at i 0 (noughts i) s (length-zeros i) h
+    splice-next at i 0 (noughts i) s (length-replicate i 0) h
     ∙ ap (λ (x : List ℕ). splice at (i + 1) x s) (replicate-append-replicate i 1 0)
+
+-- a number is zero exactly if its bytes are
+number-next : (x b : ℕ) → eqb x 0 && eqb b 0 ≡ eqb (x * 256 + b) 0
+number-next x b =
+    iff (eqb x 0 && eqb b 0) (eqb (x * 256 + b) 0)
+    (λ t. eq-eqb (x * 256 + b) 0 (omega (arith, eqb-true x 0 (and-left (eqb x 0) (eqb b 0) t), eqb-true b 0 (and-right (eqb x 0) (eqb b 0) t))))
+    (λ t. let q = eqb-true (x * 256 + b) 0 t in and-both (eqb x 0) (eqb b 0) (eq-eqb x 0 (omega arith)) (eq-eqb b 0 (omega arith)))
 
 -- the n bytes from index at are zeros
 abbrev pub zeroBytes : List ℕ → ℕ → ℕ → Bool
@@ -95,10 +95,20 @@ module _ (s : List ℕ) where
   -- n zeros are j and then k
   pub zero-both : (at n j k : ℕ) → j + k ≡ n → at + n ≤ length s → zeroBytes s at j && zeroBytes s (at + j) k ≡ zeroBytes s at n
   zero-both at n j k e h =
-      let f : length (noughts j) ≡ length (part at j s) = length-zeros j ∙ sym (length-part at j s (omega arith)) in
+      let f : length (noughts j) ≡ length (part at j s) = length-replicate j 0 ∙ sym (length-part at j s (omega arith)) in
       sym (same-append (noughts j) (noughts k) (part at j s) (part (at + j) k s) f)
       ∙ rw (replicate-append-replicate {A = ℕ} j k 0, ← part-add at j k s, e)
 
   pub zero-one : (at : ℕ) → at < length s → eqb (getD s at 0) 0 ≡ zeroBytes s at 1
   unfolding same part
   zero-one at h = rw (drop-cons s at 0 h) (eqb-sym (getD s at 0) 0 ∙ sym (and-true (eqb 0 (getD s at 0))))
+
+  -- k bytes are zeros exactly if their number is zero
+  pub zero-number : (at k : ℕ) → at + k ≤ length s → zeroBytes s at k ≡ eqb (bigEndian s at k) 0
+  unfolding same bigEndian
+  zero-number at zero h = rw (part-none at s)
+  zero-number at (suc k) h =
+      sym (zero-both at (suc k) k 1 (add-one k) h)
+      ∙ ap (λ (v : Bool). v && zeroBytes s (at + k) 1) (zero-number at k (omega arith))
+      ∙ ap (λ (v : Bool). eqb (bigEndian s at k) 0 && v) (sym (zero-one (at + k) (omega arith)))
+      ∙ number-next (bigEndian s at k) (getD s (at + k) 0)

@@ -1,5 +1,5 @@
 -- Laws for one option served: one for each way out of setup, response and refresh. Assumes nothing.
-use Prim.Native.Nat.{ℕ, zero, suc, _+_, _-_, _*_, _^_, _≤_, _<_}
+use Prim.Native.Nat.{ℕ, suc, _+_, _-_, _*_, _^_, _≤_, _<_}
 use native.Mathlib.Nat.{lt-of-lt-of-le, mul-le-mul-right}
 use native.Mathlib.Omega.{arith}
 use mathlib.Core.Path.{_≡_, refl, sym, ap, _∙_, subst}
@@ -7,7 +7,7 @@ use mathlib.Core.Bool.{Bool, true, false, cond, _&&_, true≢false}
 use mathlib.Core.Logic.{_⊎_, inl, inr, _≢_}
 use borrow.Author.Tests.{eq-eqb, ne-eqb, eqb-true}
 use mathlib.Core.List.{List, [], _∷_}
-use lib.ListN.{length, getD, set, take, drop}
+use lib.ListN.{length, getD, set}
 use lib.Seq.{set-out}
 use lib.Dec.{eqb}
 use Rattle.model.specs.Lists.{count, indexOf}
@@ -15,22 +15,23 @@ use Rattle.model.specs.Numbers.{Bytes, bigEndian, bytesOf, splice, encode}
 use Rattle.model.specs.Clock.{ageAt}
 use Rattle.model.specs.Query as query
 use Rattle.model.specs.Table as table
-use Rattle.model.specs.Table.{Slot, free, held, Table, slotAt, slotsIn, sizeOf, readTable, readSlot, readEntry, slotBytes}
+use Rattle.model.specs.Table.{free, held, Table, slotAt, slotsIn, sizeOf, readTable, readSlot, readEntry, slotBytes}
 use Rattle.model.specs.Rules.{Holding, holding, holdings, asks, full, grantedLease, freshNumber}
 use Rattle.model.specs.Sound.{FitsEntry}
 use Rattle.model.specs.Serve as serve
-use Rattle.model.specs.Serve.{has, isFree, findEntry, slotOf, withSlot, newEntry, granted, challenge, onSetup, serveSetup, answers, establish, onResponse, serveResponse, refreshes, renew, onRefresh, serveRefresh, ended, serveKind, serveOption, kindOfOption}
+use Rattle.model.specs.Serve.{has, isFree, findEntry, slotOf, withSlot, newEntry, granted, onSetup, serveSetup, answers, establish, onResponse, serveResponse, refreshes, renew, onRefresh, serveRefresh, ended, serveKind, serveOption, kindOfOption}
 use Rattle.model.proofs.NumberLaws.{big-lt}
-use Rattle.model.proofs.ListLaws.{index-le, index-hit, getD-past, and-left, and-right}
-use Rattle.model.proofs.Meaning.{fits-entry}
+use Rattle.model.proofs.ListLaws.{index-hit, getD-past, and-left, and-right}
+use Rattle.model.proofs.HoldingLaws.{found-passes}
+use Rattle.model.proofs.Meaning.{fits-entry, slots-count}
+use Rattle.model.proofs.StepLaws.{fits-establish, fits-renew}
 use Rattle.layout.specs.Shape.{inUse}
 use Rattle.layout.proofs.ReadLaws.{running-read, slot-read, read-held}
 use Rattle.entries.specs.declared.Sender.{Sender}
 use Rattle.entries.specs.declared.Entry.{Entry}
 use Rattle.entries.specs.declared.State.the-variants.{Pending}
 use Rattle.entries.specs.Reads.{addressOf, senderOf, entryAt}
-use Rattle.entries.proofs.Laws.{slots-count, has-in, has-out}
-use Rattle.wire.specs.declared.LlqNumber.{LlqNumber}
+use Rattle.entries.proofs.Laws.{has-out}
 use Rattle.wire.specs.declared.LlqOption.{LlqOption}
 use Rattle.wire.specs.Records.{optionOf}
 use Rattle.table.specs.Written.{WellFormed, Written}
@@ -73,19 +74,12 @@ module _ (b : List ℕ) (bytes : Bytes b) (formed : WellFormed b) (n : ℕ) (siz
         let t : q (slotOf (readTable b) i) ≡ true = rw (← e) at (index-hit q (readTable b .slots) free k) in
         read-held b (slotAt i) (used (inUse (getD b (slotAt i) 0)) refl (ap q (sym (at-slot i l)) ∙ t))
 
-    -- the entry that was found passes the test
-    pub found-passes : i < n → p (holding (bigEndian b 5 4) (readEntry b (slotAt i))) ≡ true
-    unfolding findEntry
-    found-passes l =
-        let q = has (readTable b .clock .running) p in
-        let k : indexOf q (readTable b .slots) < length (readTable b .slots) = rw (slots-count b n size, ← e) l in
-        let t : q (slotOf (readTable b) i) ≡ true = rw (← e) at (index-hit q (readTable b .slots) free k) in
-        let u : q (readSlot b (slotAt i)) ≡ true = ap q (sym (at-slot i l)) ∙ t in
-        let v : inUse (getD b (slotAt i) 0) ≡ true = used (inUse (getD b (slotAt i) 0)) refl u in
-        rw (running-read b) at (sym (has-in (readTable b .clock .running) p b (slotAt i) v) ∙ u)
-
     pub found-slot : i < n → slotOf (readTable b) (findEntry p (readTable b)) ≡ held (readEntry b (slotAt i))
     found-slot l = ap (slotOf (readTable b)) (sym e) ∙ at-slot i l ∙ found-held l
+
+    -- the entry that was found passes the test
+    passed : i < n → p (holding (bigEndian b 5 4) (readEntry b (slotAt i))) ≡ true
+    passed l = rw (running-read b) at (found-passes p (readTable b) (readEntry b (slotAt i)) (found-slot l))
 
     pub lost-slot : n ≤ i → slotOf (readTable b) (findEntry p (readTable b)) ≡ free
     lost-slot l = ap (slotOf (readTable b)) (sym e) ∙ getD-past (readTable b .slots) i free (rw (slots-count b n size) l)
@@ -191,26 +185,14 @@ module _ (b : List ℕ) (bytes : Bytes b) (formed : WellFormed b) (n : ℕ) (siz
       response-found l left k y w x g =
           let p = answers (senderOf s) q (optionOf o) in
           let d = readEntry b (slotAt i) in
-          let t = found-passes p is l in
+          let t = passed p is l in
           let a = asks (senderOf s .address) (s .port) q (holding (bigEndian b 5 4) d) in
           let u = eqb (d .number) (o .number .0) in
           let v = eqb (d .lease) (o .lease) in
           let number : d .number ≡ o .number .0 = eqb-true (d .number) (o .number .0) (and-left u a (and-left (u && a) v t)) in
           let lease : d .lease ≡ o .lease = eqb-true (d .lease) (o .lease) (and-right (u && a) v t) in
-          let f = fits-entry b bytes (slotAt i) in
           let v = w ∙ establish-bytes b bytes formed i (inside l) d (found-held p is l) in
-          let g′ : FitsEntry (establish d) =
-          record {
-            address = f .address;
-            port = f .port;
-            number = f .number;
-            lease = f .lease;
-            stamp = f .stamp;
-            qtype = f .qtype;
-            qclass = f .qclass;
-            size = f .size;
-            bytes = f .bytes;
-          } in
+          let g′ : FitsEntry (establish d) = fits-establish d (fits-entry b bytes (slotAt i)) in
           served-by (ap (onResponse (optionOf o) (readTable b) (findEntry p (readTable b))) (found-slot p is l))
           (record {
             table = subst (λ (j : ℕ). Written y (withSlot (readTable b) j (held (establish d)))) is
@@ -234,7 +216,7 @@ module _ (b : List ℕ) (bytes : Bytes b) (formed : WellFormed b) (n : ℕ) (siz
 
         number : d .number ≡ o .number .0
         number =
-            let t = found-passes (refreshes (senderOf s) q (optionOf o)) is l in
+            let t = passed (refreshes (senderOf s) q (optionOf o)) is l in
             eqb-true (d .number) (o .number .0)
             (and-left (eqb (d .number) (o .number .0)) (asks (senderOf s .address) (s .port) q (holding (bigEndian b 5 4) d)) (and-right (d .established) _ t))
 
@@ -268,29 +250,16 @@ module _ (b : List ℕ) (bytes : Bytes b) (formed : WellFormed b) (n : ℕ) (siz
               outcome = ap outcomeOf g ∙ rw number;
             })
 
-        pub refresh-renew : o .lease ≢ 0 → (lease running : ℕ) → lease ≡ grantedLease (o .lease) → lease < 2 ^ 32 → running ≡ bigEndian b 5 4 → (y : List ℕ)
+        pub refresh-renew : o .lease ≢ 0 → (lease running : ℕ) → lease ≡ grantedLease (o .lease) → running ≡ bigEndian b 5 4 → (y : List ℕ)
             → y ≡ splice (slotAt i + 27) 8 (encode ((4, lease) ∷ (4, running) ∷ [])) b → (x : ServedOption)
             → x ≡ servedWith o (out.Renewed (o .number) lease) → ServedAs (serveRefresh (senderOf s) q (optionOf o) (readTable b)) y x
         unfolding entryAt readEntry
-        refresh-renew z lease running k small r y w x g =
+        refresh-renew z lease running k r y w x g =
             let p = refreshes (senderOf s) q (optionOf o) in
             let rr : running ≡ readTable b .clock .running = r ∙ sym (running-read b) in
             let c = renew running (o .lease) d in
-            let f = fits-entry b bytes (slotAt i) in
             let v = w ∙ renew-bytes b bytes formed i (inside l) d (found-held p is l) running (o .lease) lease k in
-            let a : running < 256 ^ 4 = rw r (big-lt b 5 4 bytes) in
-            let fits : FitsEntry c =
-            record {
-              address = f .address;
-              port = f .port;
-              number = f .number;
-              lease = subst (λ (j : ℕ). j < 256 ^ 4) k small;
-              stamp = a;
-              qtype = f .qtype;
-              qclass = f .qclass;
-              size = f .size;
-              bytes = f .bytes;
-            } in
+            let fits : FitsEntry c = fits-renew running (o .lease) d (rw r (big-lt b 5 4 bytes)) (fits-entry b bytes (slotAt i)) in
             let w′ : Written y (withSlot (readTable b) i (held (renew (readTable b .clock .running) (o .lease) d))) =
             subst (λ (j : ℕ). Written y (withSlot (readTable b) i (held (renew j (o .lease) d)))) rr (slot-written b bytes formed i (held c) (inside l) fits y v) in
             served-by (refreshed ∙ on-renew z _)

@@ -14,11 +14,10 @@ use Rattle.model.specs.Lists.{every}
 use Rattle.model.specs.Numbers.{bigEndian, Bytes}
 use Rattle.model.specs.Table.{slotAt}
 use Rattle.model.specs.Rules.{Holding, numbered, heldBy}
-use Rattle.model.proofs.ListLaws.{either, every-nil}
+use Rattle.model.proofs.ListLaws.{either, every-nil, none-of}
 use Rattle.layout.specs.Shape.{inUse}
 use Rattle.layout.specs.Held.{holdingAt, heldTo, okAt}
 use Rattle.layout.proofs.HeldLaws.{held-none, every-yes}
-use Rattle.sound.proofs.PairLaws.{none-of}
 
 -- the last byte of a number and of an address: the same for entries of one number, or of one address
 abbrev pub numberKey : Holding → ℕ
@@ -81,7 +80,7 @@ module _ (key : Holding → ℕ) (b : List ℕ) where
   -- below the slot known for x none passes a test of key x
   none-below : (i x p : ℕ) (first : List ℕ) (q : Holding → Bool) → p ≡ min (getD first x 0) i → ((h : Holding) → q h ≡ true → key h ≡ x)
       → Firsts key b i first → every (λ h. not (q h)) (heldTo b p) ≡ true
-  none-below i x p first q e k f = rw e (none-of q (λ h. eqb (key h) x) (heldTo b (min (getD first x 0) i)) (λ h z. eq-eqb (key h) x (k h z)) (f x))
+  none-below i x p first q e k f = rw e (none-of (λ h. eqb (key h) x) q (heldTo b (min (getD first x 0) i)) (f x) (λ h z. eq-eqb (key h) x (k h z)))
 
 -- y: the last byte of the number, or of the address
 module _ (b : List ℕ) (i p y : ℕ) (first : List ℕ) (e : p ≡ min (getD first y 0) i) where

@@ -1,20 +1,19 @@
 -- One slot more in each pass over pairs, and the roster that a making is given. Assumes nothing.
 use Prim.Native.Nat.{ℕ, _+_, _*_, _<_}
-use native.Mathlib.Nat.{zero-add}
 use native.Mathlib.Omega.{arith}
-use mathlib.Core.Path.{_≡_, refl, ap, _∙_}
+use mathlib.Core.Path.{_≡_, refl, _∙_}
 use mathlib.Core.Bool.{Bool, true, false, not, cond, _&&_, and-assoc}
 use mathlib.Core.List.{List}
 use lib.ListN.{length, getD}
 use lib.Dec.{eqb, leb}
 use borrow.Author.Tests.{eqb-true, le-leb, lt-leb}
 use Rattle.model.specs.Lists.{count, any, every, noTwo}
-use Rattle.model.specs.Table.{Line, readLine, slotAt}
+use Rattle.model.specs.Table.{Line, slotAt}
 use Rattle.model.specs.Rules.{Holding, numbered, heldBy, limitOf, reserve}
 use Rattle.model.specs.Sound.{validLine, validEntry, sameNumber, sameQuestion, soundHoldings}
-use Rattle.model.specs.Calls.{goodRoster, rosterLines, rosterCount}
-use Rattle.model.proofs.ListLaws.{swap, upTo-ext, every-not}
-use Rattle.layout.specs.Shape.{inUse, linesFrom}
+use Rattle.model.specs.Calls.{goodRoster, rosterCount}
+use Rattle.model.proofs.ListLaws.{swap, every-not}
+use Rattle.layout.specs.Shape.{inUse}
 use Rattle.layout.specs.Held.{holdingAt, heldTo, okAt, within}
 use Rattle.sound.specs.Fits.{fits, fitted}
 use Rattle.layout.proofs.HeldLaws.{two-next, two-yes, two-no, grows-no}
@@ -66,10 +65,7 @@ pub holdings-is : (n : ℕ) (ls : List Line) (hs : List Holding) → soundHoldin
 unfolding soundHoldings
 holdings-is n ls hs = simp and-assoc
 
--- a roster's lines stand at base 0
-pub lines-given : (r : List ℕ) → linesFrom r 0 (rosterCount r) ≡ rosterLines r
-lines-given r = upTo-ext (rosterCount r) (λ j. readLine r (0 + 19 * j)) (λ j. readLine r (19 * j)) (λ j l. ap (readLine r) (zero-add (19 * j)))
-
+-- a roster of more than 16 lines
 pub too-long : (n : ℕ) (r : List ℕ) → 304 < length r → goodRoster n r ≡ false
 unfolding goodRoster
 too-long n r h = go (eqb (length r) (19 * rosterCount r)) refl

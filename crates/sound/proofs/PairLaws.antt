@@ -1,6 +1,5 @@
 -- Two entries as the passes over pairs test them: the number; the address, then what is asked. Assumes nothing.
 use Prim.Native.Nat.{ℕ}
-use native.Mathlib.Omega.{arith}
 use mathlib.Core.Path.{_≡_, refl, sym, ap, _∙_}
 use mathlib.Core.Bool.{Bool, true, false, not, cond, _&&_, and-assoc}
 use mathlib.Core.List.{List}
@@ -8,13 +7,8 @@ use lib.Dec.{eqb}
 use Rattle.model.specs.Lists.{same, every}
 use Rattle.model.specs.Rules.{Holding, numbered, heldBy}
 use Rattle.model.specs.Sound.{sameQuestion}
-use Rattle.model.proofs.ListLaws.{and-left, count-mono, every-not, not-every}
+use Rattle.model.proofs.ListLaws.{and-left, none-of}
 use Rattle.record.specs.Asked.{sameAsked}
-
--- where each that passes p passes q, none passes p if none passes q
-pub none-of : (p q : Holding → Bool) (l : List Holding) → ((h : Holding) → p h ≡ true → q h ≡ true) → every (λ h. not (q h)) l ≡ true
-    → every (λ h. not (p h)) l ≡ true
-none-of p q l i h = not-every p l (let z = every-not q l h in let m = count-mono l p q i in omega arith)
 
 -- u: the slot is in use; v: its entry passes
 unless : (u v : Bool) → cond u (not v) true ≡ not (u && v)
@@ -53,4 +47,4 @@ module _ (u : Bool) (h k : Holding) (a : ℕ) (address : k .address ≡ a) where
 
 -- none of the address, none of the address and question
 pub none-asks : (k : Holding) (l : List Holding) → every (λ h. not (heldBy (k .address) h)) l ≡ true → every (λ h. not (sameQuestion h k)) l ≡ true
-none-asks k l = none-of (λ h. sameQuestion h k) (heldBy (k .address)) l (λ h e. and-left (heldBy (k .address) h) (sameAsked h k) (sym (question-is h k) ∙ e))
+none-asks k l e = none-of (heldBy (k .address)) (λ h. sameQuestion h k) l e (λ h e. and-left (heldBy (k .address) h) (sameAsked h k) (sym (question-is h k) ∙ e))

@@ -2,17 +2,17 @@
 use Prim.Native.Nat.{ℕ, zero, suc, _+_, _-_, _*_, _/_, _%_, _^_, _≤_, _<_}
 use native.Mathlib.Nat.{add-zero, add-suc, mul-assoc, pow-suc}
 use native.Mathlib.Omega.{arith}
-use mathlib.Core.Path.{_≡_, refl, sym, ap, _∙_}
-use mathlib.Core.Bool.{Bool, true, false}
-use mathlib.Core.List.{List, [], _∷_, _++_, map, append-nil, append-assoc}
-use lib.ListN.{length, drop, replicate, length-append, drop-of-length-le}
+use mathlib.Core.Path.{_≡_, sym, _∙_}
+use mathlib.Core.Bool.{false}
+use mathlib.Core.List.{List, _++_, map, append-nil, append-assoc}
+use lib.ListN.{length, replicate, length-append}
 use Rattle.model.specs.Numbers.{bytesOf, part, splice, encode}
 use Rattle.model.specs.Names.{fold}
 use Rattle.model.specs.Table.{held, slotBytes}
-use Rattle.model.proofs.NumberLaws.{splice-splice, splice-on, length-bytes, length-encode, length-part}
+use Rattle.model.proofs.NumberLaws.{splice-splice, splice-on, splice-all, length-bytes, length-encode, length-part}
 use Rattle.model.proofs.ListLaws.{length-map}
 use Rattle.entries.specs.declared.Entry.{Entry}
-use Rattle.entries.specs.declared.State.the-variants.{Pending, Established}
+use Rattle.entries.specs.declared.State.the-variants.{Pending}
 use Rattle.table.specs.Stored.{whoFields, whoParts, whatFields, nameBytes, entryBytes, storedAs}
 
 -- a number's bytes in two parts
@@ -44,10 +44,6 @@ name-bytes s name n e h l =
     let q : 1 + n + (280 - n) ≡ 281 = omega arith in
     rw (e, a, p, z, q, append-assoc)
 
-whole : (s vs : List ℕ) → length s ≡ 320 → splice 0 320 vs s ≡ vs
-unfolding splice
-whole s vs h = let e : length s ≤ 320 = omega arith in rw (drop-of-length-le s e) (append-nil vs)
-
 pub entry-bytes : (s : List ℕ) (e : Entry) (name : List ℕ) → length s ≡ 320 → length name ≤ 255
     → splice 39 281 (nameBytes name) (splice 27 12 (encode (whatFields e)) (splice 0 27 (encode (whoFields e)) s)) ≡ entryBytes e name
 unfolding entryBytes
@@ -56,7 +52,7 @@ entry-bytes s e name h l =
     let ln : length (encode (whoFields e) ++ encode (whatFields e)) ≡ 39 =
     length-append (encode (whoFields e)) (encode (whatFields e)) ∙ (rw (length-encode (whoFields e), length-encode (whatFields e))) in
     let b = splice-on 39 281 (encode (whoFields e) ++ encode (whatFields e)) (nameBytes name) s ln (omega arith) in
-    rw (a, b) (whole s _ h)
+    rw (a, b) (splice-all 320 _ s h)
 
 -- a pending entry's bytes are the model's
 pub pending-bytes : (e : Entry) (name : List ℕ) → e .state ≡ Pending → entryBytes e name ≡ slotBytes (held (storedAs false e name))

@@ -1,27 +1,28 @@
 -- Laws for the sweep that frees run-out entries. Assumes nothing.
-use Prim.Native.Nat.{ℕ, zero, suc, _+_, _-_, _*_, _^_, _≤_, _<_}
+use Prim.Native.Nat.{ℕ, zero, suc, _+_, _^_, _≤_, _<_}
 use native.Mathlib.Numerals.{add-one}
 use native.Mathlib.Omega.{arith}
 use mathlib.Core.Path.{_≡_, refl, sym, ap, _∙_, subst}
-use mathlib.Core.Bool.{Bool, true, false, cond}
-use mathlib.Core.List.{List, [], _∷_, _++_, map}
+use mathlib.Core.Bool.{Bool, true, false}
+use mathlib.Core.List.{List, [], _∷_, map}
 use lib.ListN.{length, getD, take, set}
 use lib.Seq.{take-suc, set-getD, take-length}
 use Rattle.model.specs.Lists.{bit, count}
 use Rattle.model.specs.Numbers.{Bytes, bigEndian, splice, encode}
 use Rattle.model.specs.Clock.{Clock, advance}
-use Rattle.model.specs.Table.{Slot, free, held, Table, slotBytes, tableBytes, readTable, readSlot, slotAt, sizeOf, slotsIn}
+use Rattle.model.specs.Table.{Slot, free, Table, slotBytes, tableBytes, readTable, readSlot, slotAt, sizeOf}
 use Rattle.model.specs.Sound.{FitsSlot, Fits}
 use Rattle.model.specs.Serve.{withClock, withSlots, slotRunOut, freeIfRunOut, freeRunOut, movedOn, ended}
 use Rattle.model.specs.Calls.{freedBy}
 use Rattle.model.proofs.ListLaws.{count-append}
 use Rattle.model.proofs.TableLaws.{with-slot}
 use Rattle.model.proofs.RoundTrip.{slot-at}
-use Rattle.model.proofs.Meaning.{fits-read, lines-read}
-use Rattle.layout.proofs.ReadLaws.{running-read, slots-length}
+use Rattle.model.proofs.Meaning.{fits-read, lines-read, slots-count}
+use Rattle.model.proofs.StepLaws.{freed-fits, fits-with-slots, fits-free}
+use Rattle.layout.proofs.ReadLaws.{running-read}
 use Rattle.table.specs.Written.{WellFormed, Written}
 use Rattle.table.specs.Sweep.{firstChanged, freedTo}
-use Rattle.table.proofs.WriteLaws.{written, clock-written, written-formed}
+use Rattle.table.proofs.WriteLaws.{written, clock-written, formed-written}
 
 -- THE FIRST i SLOTS CHANGED
 
@@ -62,13 +63,6 @@ module _ (g : Slot → Slot) where
 
 -- A TURN OF THE SWEEP
 
-freed-fits : (r : ℕ) (x : Slot) → FitsSlot x → FitsSlot (freeIfRunOut r x)
-freed-fits r x f = go (slotRunOut r x)
-  where
-    go : (v : Bool) → FitsSlot (cond v free x)
-    go true = tt
-    go false = f
-
 module _ (t : Table) (lines : length (t .roster) ≤ 16) (f : Fits t) where
   g : Slot → Slot
   g = freeIfRunOut (t .clock .running)
@@ -76,12 +70,8 @@ module _ (t : Table) (lines : length (t .roster) ≤ 16) (f : Fits t) where
   pub freed-to-fits : (i : ℕ) → Fits (freedTo t i)
   unfolding g
   freed-to-fits i =
-      record {
-        place = f .place;
-        running = f .running;
-        lines = f .lines;
-        slots = λ j l. first-fits g (freed-fits (t .clock .running)) i (t .slots) (f .slots) j (rw (length-first g i (t .slots)) at l);
-      }
+      fits-with-slots t (firstChanged i g (t .slots)) f
+      (λ j l. first-fits g (freed-fits (t .clock .running)) i (t .slots) (f .slots) j (rw (length-first g i (t .slots)) at l))
 
   pub freed-all : freedTo t (length (t .slots)) ≡ freeRunOut t
   unfolding g
@@ -127,12 +117,9 @@ module _ {A : Type 0} (p : A → Bool) (s : List A) (d : A) where
 -- THE WHOLE OF IT, from the bytes
 
 module _ (b : List ℕ) (bytes : Bytes b) (n r : ℕ) (size : length b ≡ sizeOf n) (now-is : r ≡ bigEndian b 5 4) where
-  count-is : length (readTable b .slots) ≡ n
-  count-is = slots-length b ∙ (omega arith)
-
   module _ (i : ℕ) (l : i < n) (x : List ℕ) (inv : x ≡ tableBytes (freedTo (readTable b) i)) where
     inside : i < length (readTable b .slots)
-    inside = rw count-is l
+    inside = rw (slots-count b n size) l
 
     same-slot : readSlot x (slotAt i) ≡ getD (readTable b .slots) i free
     same-slot = freed-read (readTable b) (lines-read b) (fits-read b bytes) i inside x inv
@@ -157,13 +144,11 @@ module _ (b : List ℕ) (bytes : Bytes b) (n r : ℕ) (size : length b ≡ sizeO
   pub all-freed : (x : List ℕ) (k i : ℕ) → i ≡ n → x ≡ tableBytes (freedTo (readTable b) i) → k ≡ count (take i (readTable b .slots)) (slotRunOut r)
       → Written x (freeRunOut (readTable b)) × (k ≡ count (readTable b .slots) (slotRunOut r))
   all-freed x k i e inv c =
-      let z : i ≡ length (readTable b .slots) = e ∙ sym count-is in
+      let z : i ≡ length (readTable b .slots) = e ∙ sym (slots-count b n size) in
       let t = readTable b in
       let all : x ≡ tableBytes (freeRunOut t) =
-      inv ∙ ap (λ (j : ℕ). tableBytes (freedTo t j)) z ∙ ap tableBytes (freed-all t (lines-read b) (fits-read b bytes)) in
-      let fits : Fits (freeRunOut t) =
-      subst Fits (freed-all t (lines-read b) (fits-read b bytes)) (freed-to-fits t (lines-read b) (fits-read b bytes) (length (t .slots))) in (
-        written x (freeRunOut t) (lines-read b) fits all,
+      inv ∙ ap (λ (j : ℕ). tableBytes (freedTo t j)) z ∙ ap tableBytes (freed-all t (lines-read b) (fits-read b bytes)) in (
+        written x (freeRunOut t) (lines-read b) (fits-free t (fits-read b bytes)) all,
         c ∙ ap (λ (j : ℕ). count (take j (t .slots)) (slotRunOut r)) z ∙ ap (λ (s : List Slot). count s (slotRunOut r)) (take-length (t .slots)),
       )
 
@@ -183,7 +168,7 @@ module _ (b : List ℕ) (bytes : Bytes b) (formed : WellFormed b) (c : Clock) (p
   set-clock = clock-written b bytes formed c p q x e
 
   pub clock-formed : WellFormed x
-  clock-formed = written-formed set-clock
+  clock-formed = formed-written set-clock
 
   pub clock-running : c .running ≡ bigEndian x 5 4
   clock-running = sym (ap (λ (t : Table). t .clock .running) (set-clock .read)) ∙ running-read x

@@ -1,24 +1,23 @@
 -- Laws for one slot or the clock written in place: the bytes are again those of a table. Assumes nothing.
-use Prim.Native.Nat.{ℕ, zero, suc, _+_, _-_, _*_, _/_, _%_, _^_, _≤_, _<_}
+use Prim.Native.Nat.{ℕ, _+_, _-_, _^_, _≤_, _<_}
 use native.Mathlib.Omega.{arith}
 use mathlib.Core.Path.{_≡_, refl, sym, ap, _∙_}
-use mathlib.Core.Bool.{Bool, true, false, not, cond}
-use mathlib.Core.Logic.{⊎-elim, _≢_}
 use mathlib.Core.List.{List, [], _∷_, _++_, append-assoc}
-use lib.ListN.{length, getD, take, drop, set, replicate, length-append, length-set}
-use lib.Seq.{take-at, drop-at, getD-set-same, getD-set-other, set-out, length-take-le}
-use lib.Dec.{eqb, lit<}
-use Rattle.model.specs.Numbers.{Bytes, bigEndian, bytesOf, part, splice, encode}
+use lib.ListN.{length, take, drop, replicate, length-append}
+use lib.Seq.{length-take-le}
+use Rattle.model.specs.Numbers.{Bytes, bytesOf, part, splice, encode}
 use Rattle.model.specs.Clock.{Clock}
-use Rattle.model.specs.Table.{Line, Entry, Slot, free, held, Table, slotBytes, tableBytes, readTable, readSlot, readEntry, slotAt, sizeOf, slotsIn, unusedLine, kindOf}
+use Rattle.model.specs.Table.{Entry, Slot, free, held, Table, slotBytes, tableBytes, readTable, readSlot, slotAt, sizeOf, slotsIn, unusedLine, kindOf}
 use Rattle.model.specs.Rules.{grantedLease}
-use Rattle.model.specs.Sound.{FitsEntry, FitsSlot, Fits}
-use Rattle.model.specs.Serve.{withClock, withSlots, withSlot, slotOf, establish, renew}
-use Rattle.model.proofs.NumberLaws.{length-splice, splice-splice, splice-part, length-encode, encode-first, length-bytes, writes-eq}
-use Rattle.model.proofs.TableLaws.{with-slot, with-clock, clockFields}
+use Rattle.model.specs.Sound.{FitsSlot, Fits}
+use Rattle.model.specs.Serve.{withClock, withSlot, establish, renew}
+use Rattle.model.proofs.NumberLaws.{splice-splice, splice-mid, splice-part, length-encode, encode-first}
+use Rattle.model.proofs.SlotLaws.{kind-lt}
+use Rattle.model.proofs.TableLaws.{with-slot, with-clock}
 use Rattle.model.proofs.RoundTrip.{table-back}
 use Rattle.model.proofs.Meaning.{fits-read, lines-read, slots-read}
-use Rattle.layout.proofs.ReadLaws.{formed-size, formed-slot, slot-read}
+use Rattle.model.proofs.StepLaws.{fits-with-slot, fits-with-clock}
+use Rattle.layout.proofs.ReadLaws.{formed-size, formed-slot}
 use Rattle.table.specs.Written.{WellFormed, Written}
 
 -- bytes that are not written stay as they are
@@ -29,20 +28,12 @@ unwritten b formed = record { bytes = sym formed; read = refl }
 pub written : (b : List ℕ) (t : Table) → length (t .roster) ≤ 16 → Fits t → b ≡ tableBytes t → Written b t
 written b t l f e = record { bytes = e; read = ap readTable e ∙ table-back t l f }
 
-pub written-formed : {b : List ℕ} {t : Table} → Written b t → WellFormed b
-written-formed w = ap tableBytes (w .read) ∙ sym (w .bytes)
+pub formed-written : {b : List ℕ} {t : Table} → Written b t → WellFormed b
+formed-written w = ap tableBytes (w .read) ∙ sym (w .bytes)
 
 -- the size is kept
 pub formed-n : (b : List ℕ) → Bytes b → WellFormed b → (n : ℕ) → n ≡ slotsIn (length b) → length b ≡ sizeOf n
 formed-n b bytes formed n e = rw e (formed-size b bytes formed)
-
-fits-set : (ss : List Slot) (i : ℕ) (s : Slot) → FitsSlot s → ((j : ℕ) → j < length ss → FitsSlot (getD ss j free)) → (j : ℕ) → j < length (set ss i s)
-    → FitsSlot (getD (set ss i s) j free)
-fits-set [] i s f g j l = g j l
-fits-set (x ∷ ss) zero s f g zero l = f
-fits-set (x ∷ ss) zero s f g (suc j) l = g (suc j) l
-fits-set (x ∷ ss) (suc i) s f g zero l = g 0 (omega arith)
-fits-set (x ∷ ss) (suc i) s f g (suc j) l = fits-set ss i s f (λ k m. g (suc k) (omega arith)) j (omega arith)
 
 module _ (b : List ℕ) (bytes : Bytes b) (formed : WellFormed b) where
   -- slot i written
@@ -50,26 +41,17 @@ module _ (b : List ℕ) (bytes : Bytes b) (formed : WellFormed b) where
       → Written x (withSlot (readTable b) i s)
   slot-written i s l f x e =
       let r = fits-read b bytes in
-      written x (withSlot (readTable b) i s) (lines-read b)
-      (record { place = r .place; running = r .running; lines = r .lines; slots = fits-set (readTable b .slots) i s f (r .slots) })
+      written x (withSlot (readTable b) i s) (lines-read b) (fits-with-slot (readTable b) i s r f)
       (e ∙ ap (splice (slotAt i) 320 (slotBytes s)) (sym formed) ∙ with-slot (readTable b) (lines-read b) r i s (rw (slots-read b) l))
 
   -- the clock written
   pub clock-written : (c : Clock) → c .place < 256 ^ 4 → c .running < 256 ^ 4 → (x : List ℕ) → x ≡ splice 1 8 (encode ((4, c .place) ∷ (4, c .running) ∷ [])) b
       → Written x (withClock (readTable b) c)
   clock-written c p r x e =
-      let f = fits-read b bytes in
-      written x (withClock (readTable b) c) (lines-read b) (record { place = p; running = r; lines = f .lines; slots = f .slots })
+      written x (withClock (readTable b) c) (lines-read b) (fits-with-clock (readTable b) c (fits-read b bytes) p r)
       (e ∙ ap (splice 1 8 (encode ((4, c .place) ∷ (4, c .running) ∷ []))) (sym formed) ∙ with-clock (readTable b) c)
 
 -- SOME FIELDS OF A ROW WRITTEN
-
-splice-mid : (p m q vs : List ℕ) (a k : ℕ) → length p ≡ a → length m ≡ k → splice a k vs (p ++ (m ++ q)) ≡ p ++ (vs ++ q)
-unfolding splice
-splice-mid p m q vs a k e f =
-    let l : length (p ++ m) ≡ a + k = length-append p m ∙ (rw (e, f)) in
-    let d : drop (a + k) (p ++ (m ++ q)) ≡ q = ap (drop (a + k)) (sym (append-assoc p m q)) ∙ drop-at (p ++ m) q (a + k) l in
-    rw (take-at p (m ++ q) a e, d)
 
 pub row-edit : (b p m q vs : List ℕ) (at o k w : ℕ) → at ≤ length b → part at w b ≡ p ++ (m ++ q) → length p ≡ o → length m ≡ k
     → splice (at + o) k vs b ≡ splice at w (p ++ (vs ++ q)) b
@@ -111,13 +93,9 @@ rest : Entry → List (ℕ × ℕ)
 rest e =
     (16, e .address) ∷ (2, e .port) ∷ (8, e .number) ∷ (4, e .lease) ∷ (4, e .stamp) ∷ (2, e .qtype) ∷ (2, e .qclass) ∷ (1, length (e .name)) ∷ []
 
-kind-small : (v : Bool) → kindOf v < 256
-kind-small true = lit< tt
-kind-small false = lit< tt
-
 by-kind : (e : Entry) → slotBytes (held e) ≡ (kindOf (e .established) ∷ []) ++ (encode (rest e) ++ (e .name ++ replicate (280 - length (e .name)) 0))
 unfolding slotBytes rest
-by-kind e = ap (λ (s : List ℕ). s ++ (e .name ++ replicate (280 - length (e .name)) 0)) (encode-first (kindOf (e .established)) (rest e) (kind-small (e .established)))
+by-kind e = ap (λ (s : List ℕ). s ++ (e .name ++ replicate (280 - length (e .name)) 0)) (encode-first (kindOf (e .established)) (rest e) (kind-lt (e .established)))
 
 module _ (b : List ℕ) (bytes : Bytes b) (formed : WellFormed b) (i : ℕ) (l : i < slotsIn (length b)) (e : Entry) (here : readSlot b (slotAt i) ≡ held e) where
   row : part (slotAt i) 320 b ≡ slotBytes (held e)

@@ -2,4 +2,3 @@ pub mod Choice
 pub mod Pad
 pub mod Names
 pub mod Reading
-pub mod Writing

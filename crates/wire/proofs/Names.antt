@@ -6,13 +6,13 @@ use mathlib.Core.Bool.{cond}
 use mathlib.Core.Logic.{_⊎_, inl, inr, ⊎-elim}
 use native.Mathlib.Nat.{add-zero, eq-zero-or-pos}
 use native.Mathlib.Omega.{arith}
-use lib.ListN.{length, getD, drop, drop-of-length-le}
+use lib.ListN.{length, getD, drop}
 use lib.Seq.{drop-cons, drop-drop}
 use lib.Dec.{eqb, ltb}
 use borrow.Author.Tests.{le-leb, lt-leb, ltb-true, ltb-false}
 use Rattle.model.specs.Names.{nameSize}
 use Rattle.model.specs.Query.{nameAt}
-use Rattle.model.proofs.NameLaws.{name-bounds}
+use Rattle.model.proofs.NameLaws.{size-stop, name-bounds}
 use Rattle.wire.specs.Read.{cursor, readByte, labelOf, readLabel, named, readName}
 use Rattle.wire.specs.declared.Cursor.{Cursor}
 use Rattle.wire.specs.declared.ByteRead.{ByteRead}
@@ -58,10 +58,6 @@ After s start at (label.Last next) = (next .at ≡ at + 1) × (nameSize 0 (at - 
 After s start at label.Bad = nameSize 0 (at - start) (drop at s) ≡ 0
 
 module _ (s : List ℕ) (start at : ℕ) (h : start ≤ at) where
-  end-is : length s ≤ at → nameSize 0 (at - start) (drop at s) ≡ 0
-  unfolding nameSize
-  end-is l = ap (λ (l : List ℕ). nameSize 0 (at - start) l) (drop-of-length-le s l)
-
   step-is : at < length s → After s start at (labelOf (byte.Byte (getD s at 0) (cursor (at + 1))))
   step-is l =
       let q = size-step s at (at - start) l in
@@ -80,7 +76,7 @@ module _ (s : List ℕ) (start at : ℕ) (h : start ≤ at) where
   label-is =
       cond-when (λ r. After s start at (labelOf r)) (ltb at (length s)) _ _
       (λ e. step-is (ltb-true at (length s) e))
-      (λ e. let l : length s ≤ at = ltb-false at (length s) e in end-is l)
+      (λ e. size-stop 0 (at - start) at s (ltb-false at (length s) e))
 
   pub after : {r : LabelRead} → readLabel s at ≡ r → After s start at r
   after e = subst (After s start at) e label-is

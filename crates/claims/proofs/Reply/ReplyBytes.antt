@@ -12,6 +12,7 @@ use Rattle.model.specs.Serve.{Outcome}
 use Rattle.model.specs.Reply.{headerBytes, questionBytes, optBytes, optionBytes, replyBytes}
 use Rattle.model.proofs.NumberLaws.{length-part, getD-part, length-encode, bytes-nil, bytes-append, bytes-part, bytes-encode}
 use Rattle.model.proofs.ListLaws.{length-flat}
+use Rattle.model.proofs.ReplyLaws.{length-header, length-questions, length-opt, length-option}
 use Rattle.model.proofs.SlotLaws.{field-behind}
 use Rattle.model.proofs.TableLaws.{flat-cut, length-front}
 
@@ -56,22 +57,8 @@ pub record FitsOutcome (o : Outcome) : Type 0 where
   pub number : o .number < 256 ^ 8
   pub lease : o .lease < 256 ^ 4
 
-pub length-option : (o : Outcome) → length (optionBytes o) ≡ 22
-unfolding optionBytes
-length-option o = length-encode (optionFields o)
-
 -- THE REPLY with what stands behind it, to a datagram whose questions end within it
 module _ (d : List ℕ) (os : List Outcome) (rest : List ℕ) (low : 12 ≤ questionsEnd d) (high : questionsEnd d ≤ length d) where
-  length-header : length (headerBytes d) ≡ 12
-  unfolding headerBytes
-  length-header = length-encode ((2, messageNumber d) ∷ (1, 132 + flagRD d) ∷ (1, 0) ∷ (2, qdcount d) ∷ (2, 0) ∷ (2, 0) ∷ (2, 1) ∷ [])
-
-  length-questions : length (questionBytes d) ≡ questionsEnd d - 12
-  length-questions = length-part 12 (questionsEnd d - 12) d (omega arith)
-
-  length-opt : length (optBytes (length os)) ≡ 11
-  length-opt = ap length (opt-is (length os))
-
   length-options : length (flat optionBytes os) ≡ 22 * length os
   length-options = length-flat optionBytes 22 os (λ i o l. length-option (getD os i o))
 
@@ -79,7 +66,7 @@ module _ (d : List ℕ) (os : List Outcome) (rest : List ℕ) (low : 12 ≤ ques
   pub length-reply : length (replyBytes d os) ≡ 12 + (questionsEnd d - 12) + 11 + 22 * length os
   unfolding replyBytes
   length-reply =
-      rw (length-append, length-append, length-append, length-header, length-questions, length-opt, length-options) (omega arith)
+      rw (length-append, length-append, length-append, length-header d, length-questions d low high, length-opt (length os), length-options) (omega arith)
 
   -- the parts, one behind the other
   parts : replyBytes d os ++ rest ≡ headerBytes d ++ (questionBytes d ++ (optBytes (length os) ++ (flat optionBytes os ++ rest)))
@@ -89,18 +76,18 @@ module _ (d : List ℕ) (os : List Outcome) (rest : List ℕ) (low : 12 ≤ ques
   pub header-byte : Bytes d → (i : ℕ) → i < 12 → getD (replyBytes d os ++ rest) i 0 ≡ getD (headerList d) i 0
   header-byte b i l =
       rw parts
-      (List·getD-append (headerBytes d) (questionBytes d ++ (optBytes (length os) ++ (flat optionBytes os ++ rest))) 0 i (omega (arith, length-header))
+      (List·getD-append (headerBytes d) (questionBytes d ++ (optBytes (length os) ++ (flat optionBytes os ++ rest))) 0 i (omega (arith, length-header d))
       ∙ ap (λ (z : List ℕ). getD z i 0) (header-is d b))
 
   pub question-byte : (i : ℕ) → 12 ≤ i → i < questionsEnd d → getD (replyBytes d os ++ rest) i 0 ≡ getD d i 0
   question-byte i l h =
       let tail = optBytes (length os) ++ (flat optionBytes os ++ rest) in
-      let e : i ≡ length (headerBytes d) + (i - 12) = omega (arith, length-header) in
+      let e : i ≡ length (headerBytes d) + (i - 12) = omega (arith, length-header d) in
       let f : 12 + (i - 12) ≡ i = omega arith in
       ap (λ (z : List ℕ). getD z i 0) parts
       ∙ ap (λ (j : ℕ). getD (headerBytes d ++ (questionBytes d ++ tail)) j 0) e
       ∙ getD-append-add (headerBytes d) (questionBytes d ++ tail) (i - 12) 0
-      ∙ List·getD-append (questionBytes d) tail 0 (i - 12) (omega (arith, length-questions))
+      ∙ List·getD-append (questionBytes d) tail 0 (i - 12) (omega (arith, length-questions d low high))
       ∙ getD-part 12 (questionsEnd d - 12) d (i - 12) (omega arith)
       ∙ ap (λ (j : ℕ). getD d j 0) f
 
@@ -109,7 +96,7 @@ module _ (d : List ℕ) (os : List Outcome) (rest : List ℕ) (low : 12 ≤ ques
   front = headerBytes d ++ questionBytes d
 
   length-front-part : length front ≡ questionsEnd d
-  length-front-part = rw (length-append, length-header, length-questions) (omega arith)
+  length-front-part = rw (length-append, length-header d, length-questions d low high) (omega arith)
 
   from-opt : replyBytes d os ++ rest ≡ front ++ (optBytes (length os) ++ (flat optionBytes os ++ rest))
   from-opt = parts ∙ sym (append-assoc (headerBytes d) (questionBytes d) (optBytes (length os) ++ (flat optionBytes os ++ rest)))
@@ -121,7 +108,7 @@ module _ (d : List ℕ) (os : List Outcome) (rest : List ℕ) (low : 12 ≤ ques
       ap (λ (z : List ℕ). getD z (questionsEnd d + i) 0) from-opt
       ∙ ap (λ (j : ℕ). getD (front ++ (optBytes (length os) ++ tail)) j 0) e
       ∙ getD-append-add front (optBytes (length os) ++ tail) i 0
-      ∙ List·getD-append (optBytes (length os)) tail 0 i (omega (arith, length-opt))
+      ∙ List·getD-append (optBytes (length os)) tail 0 i (omega (arith, length-opt (length os)))
       ∙ ap (λ (z : List ℕ). getD z i 0) (opt-is (length os))
 
   -- option i behind all that is before it
@@ -133,7 +120,7 @@ module _ (d : List ℕ) (os : List Outcome) (rest : List ℕ) (low : 12 ≤ ques
       let e = length-append front (optBytes (length os) ++ flat optionBytes (take i os)) in
       let f = length-append (optBytes (length os)) (flat optionBytes (take i os)) in
       let g = length-front optionBytes 22 os (λ i o l. length-option (getD os i o)) i l in
-      omega (arith, length-front-part, length-opt)
+      omega (arith, length-front-part, length-opt (length os))
 
   from-option : (i : ℕ) (o : Outcome) → i < length os
       → replyBytes d os ++ rest ≡ beforeOption i ++ (encode (optionFields (getD os i o)) ++ (flat optionBytes (drop (suc i) os) ++ rest))

@@ -10,7 +10,7 @@ use Rattle.model.specs.Clock.{validReading}
 use Rattle.model.specs.Table.{slotsIn}
 use Rattle.model.specs.Calls.{tableLength, goodRoster}
 use Rattle.llq.proofs.LadderLaws as ladder
-use Rattle.layout.proofs.LengthLaws.{length-right}
+use Rattle.model.proofs.CallLaws.{length-facts}
 use Rattle.llq.proofs.AnswerLaws.{fresh-is}
 use borrow.Author.Needs.{needs}
 use Rattle.llq.proofs.llq_make.Statement.{statement}
@@ -61,7 +61,7 @@ place-requires c κs = started (c .before .before .before) .1
 
 make-fresh-requires : tie.Need-make-fresh-requires
 make-fresh-requires c κs =
-    let right = length-right _ (started (c .before .before .before .before) .0) .0 in
+    let right = length-facts _ (started (c .before .before .before .before) .0) .whole in
     (omega (arith, right, c .before .before .before .before .before .before .before .before .slots .ensures), sym (c .before .before .before .roster-sound .ensures) ∙ not-false _ (c .before .before .if3 .left))
 
 same-length : tie.Need-same-length

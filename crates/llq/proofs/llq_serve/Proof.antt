@@ -9,7 +9,9 @@ use Rattle.model.specs.Sound.{soundBytes}
 use Rattle.query.specs.Whole.{queryRefusal}
 use Rattle.llq.proofs.LadderLaws as ladder
 use Rattle.llq.proofs.FoundLaws.{measures}
-use Rattle.llq.proofs.AnswerLaws.{formed-written, sound-formed, sound-place, serve-answered}
+use Rattle.model.proofs.Meaning.{bytes-back as sound-formed}
+use Rattle.table.proofs.WriteLaws.{formed-written}
+use Rattle.llq.proofs.AnswerLaws.{sound-place, serve-answered}
 use borrow.Author.Needs.{needs}
 use Rattle.llq.proofs.llq_serve.Statement.{statement}
 use Rattle.llq.proofs.llq_serve.Tie as tie

@@ -11,7 +11,8 @@ use Rattle.model.specs.Serve.{movedOn}
 use Rattle.model.specs.Calls.{freedBy}
 use Prim.Native.Nat.{ℕ}
 use Rattle.llq.proofs.LadderLaws as ladder
-use Rattle.llq.proofs.AnswerLaws.{sound-formed, sound-place, freed-few}
+use Rattle.model.proofs.Meaning.{bytes-back as sound-formed}
+use Rattle.llq.proofs.AnswerLaws.{sound-place, freed-few}
 use borrow.Author.Needs.{needs}
 use Rattle.llq.proofs.llq_tick.Statement.{statement}
 use Rattle.llq.proofs.llq_tick.Tie as tie

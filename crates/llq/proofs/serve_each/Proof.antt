@@ -13,7 +13,8 @@ use Rattle.entries.specs.Reads.{senderOf}
 use Rattle.table.specs.Written.{Written}
 use Rattle.llq.specs.Answer.{tableFrom, outcomeFrom}
 use Rattle.llq.proofs.ReplyLaws.{options-none}
-use Rattle.llq.proofs.AnswerLaws.{formed-written, written-none, written-next, reply-next}
+use Rattle.table.proofs.WriteLaws.{formed-written}
+use Rattle.llq.proofs.AnswerLaws.{written-none, written-next, reply-next}
 use Rattle.llq.proofs.serve_each.Statement.{statement}
 use Rattle.llq.proofs.serve_each.Tie as tie
 use Rattle.llq.proofs.serve_each.Reads as reads

@@ -5,7 +5,7 @@ use Rattle.octets.proofs.get16.Tie as tie
 use Prim.Native.Nat.{_+_}
 use native.Mathlib.Omega.{arith}
 use denote.Ref.{now}
-use Rattle.octets.proofs.Laws.{chain2}
+use Rattle.octets.proofs.Laws.{chain-is}
 
 shared-slice-read-result : tie.Need-shared-slice-read-result
 shared-slice-read-result c = search needs
@@ -41,7 +41,7 @@ add-result-2 c =
     omega (arith, g a, g (a + 1))
 
 returns : tie.Need-returns
-returns c = chain2 (now (c .before .before .args .s)) (c .before .before .args .at)
+returns c = chain-is 1 (now (c .before .before .args .s)) (c .before .before .args .at)
 
 pub get16-spec : {M : Type 1} → statement M
 get16-spec =

@@ -5,7 +5,7 @@ use Rattle.octets.proofs.get32.Tie as tie
 use Prim.Native.Nat.{_+_}
 use native.Mathlib.Omega.{arith}
 use denote.Ref.{now}
-use Rattle.octets.proofs.Laws.{chain4}
+use Rattle.octets.proofs.Laws.{chain-is}
 
 shared-slice-read-a : tie.Need-shared-slice-read-a
 shared-slice-read-a c = search needs
@@ -89,7 +89,7 @@ add-result-2 c =
     omega (arith, g a, g (a + 1), g (a + 2), g (a + 3))
 
 returns : tie.Need-returns
-returns c = chain4 (now (c .before .before .before .before .args .s)) (c .before .before .before .before .args .at)
+returns c = chain-is 3 (now (c .before .before .before .before .args .s)) (c .before .before .before .before .args .at)
 
 pub get32-spec : {M : Type 1} → statement M
 get32-spec =

@@ -61,7 +61,7 @@ returns-3 : tie.Need-returns-3
 returns-3 c =
     let a = c .before .before .before .before .before .before .before .before .before .before .before .before .before .before .before .before .args in
     law.refresh-renew (a .t .now) (λ j. omega (arith, c .before .before .before .before .before .before .before .before .before .before .before .before .before .before .before .slice-known .given j)) (c .before .before .before .before .before .before .before .before .before .before .before .before .before .before .before .before .pre .0) (a .n) (c .before .before .before .before .before .before .before .before .before .before .before .before .before .before .before .before .pre .1) (a .s) 0 (questionOf (a .d .now) (a .q)) (a .o) (c .before .before .before .before .before .before .before .before .before .before .before .find-refreshed .ensures) (c .before .before .before .before .before .before .before .before .before .before .if1 .left) (c .before .before .before .before .before .before .before .before .if2 .left) _ _ (c .before .before .before .before .before .before .before .granted-lease .ensures)
-    (omega (arith, c .before .before .before .before .before .before .before)) (c .before .before .before .before .get32 .ensures) _ (c .before .before .before .renew-at .ensures) _ (c .served3 .ensures)
+    (c .before .before .before .before .get32 .ensures) _ (c .before .before .before .renew-at .ensures) _ (c .served3 .ensures)
 
 pub serve-refresh-spec : {M : Type 1} → statement M
 serve-refresh-spec =

@@ -5,7 +5,8 @@ use borrow.Author.Needs.{needs}
 use borrow.Author.Tests.{not-true, not-false}
 use lib.ListN.{length}
 use Rattle.model.proofs.ListLaws.{never}
-use Rattle.layout.proofs.LengthLaws.{length-right, right-length}
+use Rattle.model.proofs.CallLaws.{length-facts}
+use Rattle.layout.proofs.LengthLaws.{right-length}
 use Rattle.layout.proofs.SoundLaws.{sound-is, not-sound}
 use Rattle.sound.proofs.sound.Statement.{statement}
 use Rattle.sound.proofs.sound.Tie as tie
@@ -30,28 +31,28 @@ returns c =
     (λ e l h. never (right-length (length t) e l h) (sym (c .before .table-length .ensures) ∙ not-true _ (c .if1 .taken)))
 
 listed-lines-requires : tie.Need-listed-lines-requires
-listed-lines-requires c κs = let r = length-right (length (c .before .before .before .before .args .t .now)) (sym (c .before .table-length .ensures) ∙ not-false _ (c .if1 .left)) in omega arith
+listed-lines-requires c κs = let r = length-facts (length (c .before .before .before .before .args .t .now)) (sym (c .before .table-length .ensures) ∙ not-false _ (c .if1 .left)) in omega arith
 
 table-shape-requires : tie.Need-table-shape-requires
 table-shape-requires c κs =
-    let r = length-right (length (c .before .before .before .before .before .args .t .now)) (sym (c .before .before .table-length .ensures) ∙ not-false _ (c .before .if1 .left)) in
+    let r = length-facts (length (c .before .before .before .before .before .args .t .now)) (sym (c .before .before .table-length .ensures) ∙ not-false _ (c .before .if1 .left)) in
     (omega arith, omega arith, omega arith, c .listed-lines .ensures .0)
 
 returns-2 : tie.Need-returns-2
 returns-2 c =
-    let r = length-right (length (c .before .before .before .before .before .before .before .args .t .now)) (sym (c .before .before .before .before .table-length .ensures) ∙ not-false _ (c .before .before .before .if1 .left)) in
+    let r = length-facts (length (c .before .before .before .before .before .before .before .args .t .now)) (sym (c .before .before .before .before .table-length .ensures) ∙ not-false _ (c .before .before .before .if1 .left)) in
     let t = c .before .before .before .before .before .before .before .args .t .now in
     let s = sound-is t (λ i. omega (arith, c .before .before .before .before .before .before .shared-slice-known .given i)) (c .before .before .before .before .before .slots .result) (omega arith) (omega arith) (omega arith) in
     sym (s ∙ (rw (sym (c .before .table-shape .ensures) ∙ not-true _ (c .if2 .taken))))
 
 rules-sound-requires : tie.Need-rules-sound-requires
 rules-sound-requires c κs =
-    let r = length-right (length (c .before .before .before .before .before .before .before .args .t .now)) (sym (c .before .before .before .before .table-length .ensures) ∙ not-false _ (c .before .before .before .if1 .left)) in
+    let r = length-facts (length (c .before .before .before .before .before .before .before .args .t .now)) (sym (c .before .before .before .before .table-length .ensures) ∙ not-false _ (c .before .before .before .if1 .left)) in
     (omega arith, omega arith, omega arith)
 
 returns-3 : tie.Need-returns-3
 returns-3 c =
-    let r = length-right (length (c .before .before .before .before .before .before .before .before .args .t .now)) (sym (c .before .before .before .before .before .table-length .ensures) ∙ not-false _ (c .before .before .before .before .if1 .left)) in
+    let r = length-facts (length (c .before .before .before .before .before .before .before .before .args .t .now)) (sym (c .before .before .before .before .before .table-length .ensures) ∙ not-false _ (c .before .before .before .before .if1 .left)) in
     let t = c .before .before .before .before .before .before .before .before .args .t .now in
     let s = sound-is t (λ i. omega (arith, c .before .before .before .before .before .before .before .shared-slice-known .given i)) (c .before .before .before .before .before .before .slots .result) (omega arith) (omega arith) (omega arith) in
     c .rules-sound .ensures ∙ (rw (c .before .before .before .listed-lines .ensures .0) (sym (s ∙ (rw (sym (c .before .before .table-shape .ensures) ∙ not-false _ (c .before .if2 .left))))))

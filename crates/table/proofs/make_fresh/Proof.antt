@@ -2,6 +2,7 @@
 use native.Mathlib.Omega.{arith}
 use borrow.Author.Needs.{needs}
 use Rattle.model.proofs.NumberLaws.{part-all}
+use Rattle.model.proofs.CallLaws.{given-roster}
 use Rattle.table.proofs.FreshLaws as made
 use Rattle.table.proofs.make_fresh.Statement.{statement}
 use Rattle.table.proofs.make_fresh.Tie as tie
@@ -21,14 +22,15 @@ put-clock-requires c κs = search needs
 
 copy-requires : tie.Need-copy-requires
 copy-requires c κs =
-    let l = made.roster-length (c .before .before .before .before .before .before .before .before .before .before .before .args .roster .now) (λ j. omega (arith, c .before .before .before .before .before .before .before .before .before .shared-slice-known .given j)) (c .before .before .before .before .before .before .before .before .before .before .before .args .n) (c .before .before .before .before .before .before .before .before .before .before .before .pre .1) in
-    let m = made.roster-lines (c .before .before .before .before .before .before .before .before .before .before .before .args .roster .now) (λ j. omega (arith, c .before .before .before .before .before .before .before .before .before .shared-slice-known .given j)) (c .before .before .before .before .before .before .before .before .before .before .before .args .n) (c .before .before .before .before .before .before .before .before .before .before .before .pre .1) in
-    (omega (arith, c .before .before .before .before .before .before .before .before .before .before .before), omega arith)
+    let z = c .before .before .before .before .before .before .before .before .before .before .before in
+    let g = given-roster (z .args .n) (z .args .roster .now) (z .pre .1) in
+    (omega (arith, z, g .whole, g .few), omega (arith, z, g .whole, g .few))
 
 clear-lines-requires : tie.Need-clear-lines-requires
 clear-lines-requires c κs =
-    let m = made.roster-lines (c .before .before .before .before .before .before .before .before .before .before .before .before .before .before .before .args .roster .now) (λ j. omega (arith, c .before .before .before .before .before .before .before .before .before .before .before .before .before .shared-slice-known .given j)) (c .before .before .before .before .before .before .before .before .before .before .before .before .before .before .before .args .n) (c .before .before .before .before .before .before .before .before .before .before .before .before .before .before .before .pre .1) in
-    (omega arith, omega (arith, c .before .before .before .before .before .before .before .before .before .before .before .before .before .before .before))
+    let z = c .before .before .before .before .before .before .before .before .before .before .before .before .before .before .before in
+    let g = given-roster (z .args .n) (z .args .roster .now) (z .pre .1) in
+    (omega (arith, g .few), omega (arith, z, g .few))
 
 clear-slots-requires : tie.Need-clear-slots-requires
 clear-slots-requires c κs = search needs
