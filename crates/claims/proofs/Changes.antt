@@ -17,13 +17,14 @@ use Rattle.model.proofs.CallLaws.{serve-number, serve-answered}
 use Rattle.claims.specs.Events.{ServeInRange}
 use Rattle.claims.specs.Tally.{tallyBefore}
 use Rattle.claims.specs.Changes.{Datagram, doneOptions, Changes}
+use Rattle.claims.specs.AnySound.{tallyOf}
 use Rattle.claims.proofs.Relation.{Related}
 use Rattle.claims.proofs.AcceptedCalls.{serve-accepted}
 use Rattle.claims.proofs.Reply.AnsweredReply.{reply-answered}
 use Rattle.claims.proofs.Relation.DatagramKeeps.{done-le, datagram-keeps}
 use Rattle.claims.proofs.Changes.MovedLaws.{moved-on}
 use Rattle.claims.proofs.Changes.EntryAfter.{option-done}
-use Rattle.claims.proofs.Relation.TableTally.{tallyOf, related-read, read-back}
+use Rattle.claims.proofs.Relation.TableTally.{related-read, read-back}
 
 module _ (c : ServeCall) (b lent : List ℕ) (range : ServeInRange c) (stored : SoundBytes b) (e : serve c b lent .number ≡ 0) where
   none-refused : serveRefusal c b ≡ 0

@@ -25,9 +25,10 @@ use Rattle.model.proofs.HoldingLaws.{count-held, held-obeys}
 use Rattle.claims.specs.Tally.{Tally, making, ticking, serving, passed, judged, moveTally, tallyAfter}
 use Rattle.claims.specs.Events.{Event, made, ticked, served, callOf, numberOf, tableOf, Happens, Trace, InRange, AllInRange}
 use Rattle.claims.specs.LiveAge.{stepIn, stepsAlong, leftBy, Stamped, StampedAlong, ageIn, LiveAge}
+use Rattle.claims.specs.AnySound.{tallyOf}
 use Rattle.claims.proofs.Relation.MoveKeeps.{passed-less}
 use Rattle.claims.proofs.Demand3.TallyLaws.{before-running}
-use Rattle.claims.proofs.Relation.TableTally.{tallyOf, related-read}
+use Rattle.claims.proofs.Relation.TableTally.{related-read}
 use Rattle.claims.proofs.Demand3.CallSteps.{Invariant, kept-back, next, after-is, kept-step, number-step}
 
 -- an entry of a sound table may grow older by a step in one sum

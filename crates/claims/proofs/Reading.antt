@@ -20,6 +20,7 @@ use Rattle.claims.specs.Refusals.{two, NameEnds, Starts, QuestionFault, 
 use Rattle.claims.specs.Demand3.{Exactly}
 use Rattle.claims.specs.Reading.{Folded, QuestionRead, LlqPlaces, OptionRead, Matching, Reading, ReadsQueries}
 use Rattle.claims.proofs.Refusals.NameReading.{end-size}
+use Rattle.claims.proofs.Refusals.OptReading.{end-of}
 use Rattle.claims.proofs.Refusals.QuestionReading.{big-two, start-is, end-is, bad-questions}
 use Rattle.claims.proofs.Refusals.OptReading.{bad-opt, opt-fills}
 
@@ -69,9 +70,6 @@ module _ (d : List ℕ) where
   abbrev llq : EdnsOption → Bool
   llq o = eqb (o .code) 1
 
-  end-of : (q : ℕ) → optionEnd d q ≡ q + 4 + two d (q + 2)
-  end-of q = ap (λ (x : ℕ). q + 4 + x) (big-two d (q + 2))
-
   record Placed (k q : ℕ) : Type 0 where
     places : List ℕ
     are : LlqPlaces d q places
@@ -79,7 +77,7 @@ module _ (d : List ℕ) where
 
   none-left : (k q : ℕ) → q ≡ length d → keep llq (optionsFrom (suc k) d q) ≡ []
   unfolding optionsFrom goodOption keep
-  none-left k q h = let e : leb (optionEnd d q) (length d) ≡ false = lt-leb (optionEnd d q) (length d) (omega (arith, end-of q)) in rw e
+  none-left k q h = let e : leb (optionEnd d q) (length d) ≡ false = lt-leb (optionEnd d q) (length d) (omega (arith, end-of d q)) in rw e
 
   one-llq : (k q : ℕ) → goodOption d q ≡ true → eqb (bigEndian d q 2) 1 ≡ true
       → keep llq (optionsFrom (suc k) d q) ≡ optionAt d q ∷ keep llq (optionsFrom k d (optionEnd d q))
@@ -93,7 +91,7 @@ module _ (d : List ℕ) where
 
   inside : (q : ℕ) → goodOption d q ≡ true → q < length d
   unfolding goodOption
-  inside q h = omega (arith, leb-true (optionEnd d q) (length d) h, end-of q)
+  inside q h = omega (arith, leb-true (optionEnd d q) (length d) h, end-of d q)
 
   placed : (k q : ℕ) → optionsFill k d q ≡ true → Placed k q
   unfolding optionsFill
@@ -106,7 +104,7 @@ module _ (d : List ℕ) where
       (λ x.
       let g = and-left (goodOption d q) (optionsFill k d (optionEnd d q)) x in
       let m = placed k (optionEnd d q) (and-right (goodOption d q) (optionsFill k d (optionEnd d q)) x) in
-      let rest : LlqPlaces d (q + 4 + two d (q + 2)) (m .places) = subst (λ (r : ℕ). LlqPlaces d r (m .places)) (end-of q) (m .are) in
+      let rest : LlqPlaces d (q + 4 + two d (q + 2)) (m .places) = subst (λ (r : ℕ). LlqPlaces d r (m .places)) (end-of d q) (m .are) in
       ⊎-elim
       (λ (e : eqb (bigEndian d q 2) 1 ≡ true).
       record {

@@ -9,7 +9,8 @@ use Rattle.model.specs.Calls.{serveRefusal}
 use Rattle.model.specs.Meets.{model}
 use Rattle.model.proofs.CallLaws.{serve-number}
 use Rattle.claims.specs.Reply.{ReplyClaim}
-use Rattle.claims.proofs.Relation.TableTally.{tallyOf, related-read}
+use Rattle.claims.specs.AnySound.{tallyOf}
+use Rattle.claims.proofs.Relation.TableTally.{related-read}
 use Rattle.claims.proofs.Relation.DatagramKeeps.{datagram-keeps}
 use Rattle.claims.proofs.AcceptedCalls.{serve-accepted}
 use Rattle.claims.proofs.Reply.AnsweredReply.{reply-answered}

@@ -15,10 +15,11 @@ use Rattle.model.proofs.ClockLaws.{placed}
 use Rattle.model.proofs.CallLaws.{tick-number, tick-answered}
 use Rattle.claims.specs.Tally.{moveTally}
 use Rattle.claims.specs.Tick.{TickDone, Ticking}
+use Rattle.claims.specs.AnySound.{tallyOf}
 use Rattle.claims.proofs.AcceptedCalls.{tick-accepted}
 use Rattle.claims.proofs.Relation.MoveKeeps.{move-keeps, freed-count}
 use Rattle.claims.proofs.Changes.MovedLaws.{moved-on}
-use Rattle.claims.proofs.Relation.TableTally.{tallyOf, related-read, read-back}
+use Rattle.claims.proofs.Relation.TableTally.{related-read, read-back}
 
 -- from a table to the bytes of the one moved on
 moved-done : (c : TickCall) (b : List ℕ) → SoundBytes b → tickRefusal c b ≡ 0

@@ -28,7 +28,8 @@ pick-length true o l = refl
 pick-length false o l = refl
 
 module _ (d : List ℕ) where
-  end-of : (q : ℕ) → optionEnd d q ≡ q + 4 + two d (q + 2)
+  -- where an option ends, by the bytes
+  pub end-of : (q : ℕ) → optionEnd d q ≡ q + 4 + two d (q + 2)
   end-of q = ap (λ (x : ℕ). q + 4 + x) (big-two d (q + 2))
 
   fits : (q : ℕ) → goodOption d q ≡ true → q + 4 + two d (q + 2) ≤ length d

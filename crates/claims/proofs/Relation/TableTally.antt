@@ -9,11 +9,8 @@ use Rattle.model.specs.Sound.{Sound, Fits, SoundBytes}
 use Rattle.model.proofs.RoundTrip.{table-back}
 use Rattle.model.proofs.Meaning.{read-stored}
 use Rattle.claims.specs.Tally.{Tally}
+use Rattle.claims.specs.AnySound.{tallyOf}
 use Rattle.claims.proofs.Relation.{Related}
-
-abbrev pub tallyOf : Table → Tally
-tallyOf t =
-    record { place = t .clock .place; running = t .clock .running; n = length (t .slots); roster = t .roster; holdings = holdings t }
 
 pub related-self : (t : Table) → Sound t → Fits t → Related t (tallyOf t)
 related-self t s f =
