@@ -2,21 +2,25 @@
 use Prim.Native.Nat.{ℕ, _+_, _*_, _≤_, _<_}
 use native.Mathlib.Omega.{arith}
 use mathlib.Core.Path.{_≡_, refl, sym, ap, _∙_}
-use mathlib.Core.Bool.{Bool, true, false, cond}
+use mathlib.Core.Bool.{Bool, true, false, not, cond}
 use mathlib.Core.List.{List, [], _∷_, _++_, append-nil}
 use lib.ListN.{length, drop}
-use Rattle.model.specs.Lists.{flat, upTo}
+use borrow.Author.Tests.{le-ltb, leb-true}
+use Rattle.model.specs.Lists.{count, flat, upTo}
 use Rattle.model.specs.Numbers.{splice, bigEndian}
-use Rattle.model.specs.Clock.{cycle, validReading, placeOf, advance}
+use Rattle.model.specs.Clock.{cycle, validReading, placeOf, advance, ageAt}
 use Rattle.model.specs.Query.{Question, LlqOption, qdcount, questionsEnd, matched, question, llqOption}
-use Rattle.model.specs.Table.{Table, tableBytes, readTable}
-use Rattle.model.specs.Sound.{soundBytes}
-use Rattle.model.specs.Serve.{Sender, Outcome, serveOption, movedOn, slotRunOut}
+use Rattle.model.specs.Table.{Slot, free, held, Table, tableBytes, readTable}
+use Rattle.model.specs.Rules.{Holding}
+use Rattle.model.specs.Sound.{live, soundBytes}
+use Rattle.model.specs.Serve.{Sender, Outcome, has, serveOption, movedOn, slotRunOut}
 use Rattle.model.specs.Reply.{optionBytes, replyBytes, replyLength, mismatch}
 use Rattle.model.specs.Calls.{MakeCall, ServeCall, freedBy, freshTable}
 use Rattle.model.specs.Meets.{ServeMeets}
-use Rattle.model.proofs.ListLaws.{count-le, length-upTo}
+use Rattle.model.proofs.ListLaws.{count-le, count-mono, length-upTo}
+use Rattle.model.proofs.HoldingLaws.{count-entries}
 use Rattle.model.proofs.Meaning.{table-sound}
+use Rattle.layout.proofs.ReadLaws.{running-read}
 use Rattle.query.specs.Whole.{queryRefusal}
 use Rattle.table.specs.Written.{WellFormed, Written}
 use Rattle.table.specs.Fresh.{fresh}
@@ -30,6 +34,20 @@ use Rattle.llq.proofs.LadderLaws.{noRoom, serve-done}
 pub sound-place : (b : List ℕ) → soundBytes b ≡ true → bigEndian b 1 4 < cycle
 unfolding readTable
 sound-place b h = table-sound b h .place
+
+out-dead : (r : ℕ) (x : Slot) → slotRunOut r x ≡ true → has r (λ k. not (live k)) x ≡ true
+unfolding slotRunOut has
+out-dead r free e = e
+out-dead r (held e) z = rw (le-ltb (ageAt r (e .stamp)) (e .lease) (leb-true (e .lease) (ageAt r (e .stamp)) z))
+
+-- no entry of a sound table has run out
+pub sound-live : (b : List ℕ) → soundBytes b ≡ true → count (readTable b .slots) (slotRunOut (bigEndian b 5 4)) ≡ 0
+sound-live b h =
+    let t = readTable b in
+    let dead : Holding → Bool = λ k. not (live k) in
+    let some = count-mono (t .slots) (slotRunOut (t .clock .running)) (has (t .clock .running) dead) (out-dead (t .clock .running)) in
+    let all = count-entries (t .clock .running) (t .slots) dead in
+    rw (running-read b) at (let z : count (t .slots) (slotRunOut (t .clock .running)) ≡ 0 = omega (arith, some, all, table-sound b h .ages) in z)
 
 -- a tick's count fits its field
 pub freed-few : (b : List ℕ) (p : ℕ) → soundBytes b ≡ true → freedBy (readTable b) p ≤ 64

@@ -3,7 +3,7 @@ use Prim.Native.Nat.{ℕ, zero, suc, _+_, _^_, _≤_, _<_}
 use native.Mathlib.Numerals.{add-one}
 use native.Mathlib.Omega.{arith}
 use mathlib.Core.Path.{_≡_, refl, sym, ap, _∙_, subst}
-use mathlib.Core.Bool.{Bool, true, false}
+use mathlib.Core.Bool.{Bool, true, false, cond}
 use mathlib.Core.List.{List, [], _∷_, map}
 use lib.ListN.{length, getD, take, set}
 use lib.Seq.{take-suc, set-getD, take-length}
@@ -162,6 +162,15 @@ pub clock-is : (b : List ℕ) {p r : ℕ} → p ≡ bigEndian b 1 4 → r ≡ bi
 unfolding readTable
 clock-is b e f = rw (e, f)
 
+none-out : (r : ℕ) (s : List Slot) → count s (slotRunOut r) ≡ 0 → map (freeIfRunOut r) s ≡ s
+none-out r [] e = refl
+none-out r (x ∷ s) e = go (slotRunOut r x) e (none-out r s)
+  where
+    go : (v : Bool) → bit v + count s (slotRunOut r) ≡ 0 → (count s (slotRunOut r) ≡ 0 → map (freeIfRunOut r) s ≡ s)
+        → cond v ended x ∷ map (freeIfRunOut r) s ≡ x ∷ s
+    go true e f = absurd (omega arith)
+    go false e f = ap (λ (l : List Slot). x ∷ l) (f (omega arith))
+
 module _ (b : List ℕ) (bytes : Bytes b) (formed : WellFormed b) (c : Clock) (p : c .place < 256 ^ 4) (q : c .running < 256 ^ 4) (x : List ℕ)
     (e : x ≡ splice 1 8 (encode ((4, c .place) ∷ (4, c .running) ∷ [])) b) where
   set-clock : Written x (withClock (readTable b) c)
@@ -181,4 +190,15 @@ module _ (b : List ℕ) (bytes : Bytes b) (formed : WellFormed b) (c : Clock) (p
       let t : readTable x ≡ withClock (readTable b) (advance (readTable b .clock) place) = set-clock .read ∙ ap (withClock (readTable b)) g in (
         subst (λ (z : Table). Written y (freeRunOut z)) t (h .0),
         h .1 ∙ ap (λ (z : Table). count (z .slots) (slotRunOut (c .running))) t ∙ ap (λ (z : Clock). count (readTable b .slots) (slotRunOut (z .running))) g,
+      )
+
+  -- where none has run out, none ends
+  pub stays : (place : ℕ) → c ≡ advance (readTable b .clock) place → count (readTable b .slots) (slotRunOut (c .running)) ≡ 0
+      → Written x (movedOn (readTable b) place) × (0 ≡ freedBy (readTable b) place)
+  stays place g z =
+      let t = withClock (readTable b) c in
+      let same : freeRunOut (readTable x) ≡ t = ap freeRunOut (set-clock .read) ∙ ap (withSlots t) (none-out (c .running) (readTable b .slots) z) in
+      moved place g x 0 (
+        subst (Written x) (sym same) set-clock,
+        sym (ap (λ (y : Table). count (y .slots) (slotRunOut (c .running))) (set-clock .read) ∙ z),
       )

@@ -142,9 +142,9 @@ fn free_run_out(t: &mut [u8], n: usize, running: u32) -> usize
     k
 }
 
-// The clock is moved on to a place, then run-out entries end. Returns how many there were.
+// The clock is moved on to a place, then run-out entries end. Returns how many there were. No entry had run out before: while the count stays, none does.
 pub fn move_on(t: &mut [u8], place: u32) -> usize
-    requires { ⌜ WellFormed (now t) × (bigEndian (now t) 1 4 < cycle) × (place < cycle) ⌝ }
+    requires { ⌜ WellFormed (now t) × (bigEndian (now t) 1 4 < cycle) × (place < cycle) × (count (readTable (now t) .slots) (slotRunOut (bigEndian (now t) 5 4)) ≡ 0) ⌝ }
     ensures { λ r. ⌜ Written (now (t .exit)) (movedOn (readTable (now (t .entry))) place) × (r ≡ freedBy (readTable (now (t .entry))) place) ⌝ }
 {
     let n = layout::slots(t.len());
@@ -154,6 +154,9 @@ pub fn move_on(t: &mut [u8], place: u32) -> usize
     };
     let d = clock::advanced(c, place);
     put_clock(t, d);
+    if d.running == c.running {
+        return 0;
+    }
     free_run_out(t, n, d.running)
 }
 

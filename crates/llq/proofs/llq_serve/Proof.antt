@@ -11,7 +11,7 @@ use Rattle.llq.proofs.LadderLaws as ladder
 use Rattle.llq.proofs.FoundLaws.{measures}
 use Rattle.model.proofs.Meaning.{bytes-back as sound-formed}
 use Rattle.table.proofs.WriteLaws.{formed-written}
-use Rattle.llq.proofs.AnswerLaws.{sound-place, serve-answered}
+use Rattle.llq.proofs.AnswerLaws.{sound-place, sound-live, serve-answered}
 use borrow.Author.Needs.{needs}
 use Rattle.llq.proofs.llq_serve.Statement.{statement}
 use Rattle.llq.proofs.llq_serve.Tie as tie
@@ -109,7 +109,7 @@ place-requires c κs = started (c .before .before .before .before .before .befor
 move-on-requires : tie.Need-move-on-requires
 move-on-requires c κs =
     let b = c .before .before .before .before .before .before .before .before .before .before .before .before .before .before .before .before .args .t .now in
-    let e = started (c .before .before .before .before .before .before .before .before) .0 in (sound-formed b e, sound-place b e, c .place .ensures .1)
+    let e = started (c .before .before .before .before .before .before .before .before) .0 in (sound-formed b e, sound-place b e, c .place .ensures .1, sound-live b e)
 
 answer-requires : tie.Need-answer-requires
 answer-requires c κs =

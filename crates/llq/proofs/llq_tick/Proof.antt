@@ -12,7 +12,7 @@ use Rattle.model.specs.Calls.{freedBy}
 use Prim.Native.Nat.{ℕ}
 use Rattle.llq.proofs.LadderLaws as ladder
 use Rattle.model.proofs.Meaning.{bytes-back as sound-formed}
-use Rattle.llq.proofs.AnswerLaws.{sound-place, freed-few}
+use Rattle.llq.proofs.AnswerLaws.{sound-place, sound-live, freed-few}
 use borrow.Author.Needs.{needs}
 use Rattle.llq.proofs.llq_tick.Statement.{statement}
 use Rattle.llq.proofs.llq_tick.Tie as tie
@@ -53,7 +53,7 @@ place-requires c κs = started (c .before) .1
 move-on-requires : tie.Need-move-on-requires
 move-on-requires c κs =
     let b = c .before .before .before .before .before .before .before .before .args .t .now in
-    let e = started (c .before .before) .0 in (sound-formed b e, sound-place b e, c .place .ensures .1)
+    let e = started (c .before .before) .0 in (sound-formed b e, sound-place b e, c .place .ensures .1, sound-live b e)
 
 cast-t11 : tie.Need-cast-t11
 cast-t11 c =
