@@ -7,3 +7,4 @@ pub mod LimitLaws
 pub mod AddressLaws
 pub mod LengthLaws
 pub mod SoundLaws
+pub mod ReserveLaws

@@ -93,6 +93,22 @@ limit-min (x ∷ l) a h = go (eqb (x .address) a) (limit-min l a (and-right (val
     go true r = one
     go false r = r
 
+-- and a share no more than the limit
+pub share-limit : (l : List Line) (a : ℕ) → every validLine l ≡ true → shareOf l a ≤ limitOf l a
+unfolding limitOf shareOf every
+share-limit [] a h = omega arith
+share-limit (x ∷ l) a h = go (eqb (x .address) a) (share-limit l a (and-right (validLine x) (every validLine l) h))
+  where
+    own : x .share ≤ x .limit
+    own =
+        let s = leb (x .share) (x .limit) in
+        let m = leb 1 (x .limit) in
+        leb-true (x .share) (x .limit) (and-left s m (and-left (s && m) (leb (x .limit) 64) (and-left (validLine x) (every validLine l) h)))
+
+    go : (v : Bool) → shareOf l a ≤ limitOf l a → cond v (x .share) (shareOf l a) ≤ cond v (x .limit) (limitOf l a)
+    go true r = own
+    go false r = r
+
 -- A LINE MORE, f i being line i
 
 module _ (f : ℕ → Line) where

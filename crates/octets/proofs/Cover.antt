@@ -11,7 +11,7 @@ use Rattle.model.specs.Lists.{bit}
 use Rattle.model.proofs.ListLaws.{iff, and-left, and-right, and-both}
 
 -- an `or` is zero exactly if both are
-or-zero : (a b : ℕ) → eqb (bitOr a b) 0 ≡ eqb a 0 && eqb b 0
+pub or-zero : (a b : ℕ) → eqb (bitOr a b) 0 ≡ eqb a 0 && eqb b 0
 or-zero a b =
     iff (eqb (bitOr a b) 0) (eqb a 0 && eqb b 0)
     (λ e.

@@ -1,33 +1,43 @@
--- Bytes judged as one number: zeros, and two fields side by side. Assumes nothing.
+-- Bytes judged as one number: zeros, a kind and zeros, and two fields side by side. Assumes nothing.
 use Prim.Native.Nat.{ℕ, _+_, _*_, _^_, _≤_}
 use native.Mathlib.Omega.{arith}
-use mathlib.Core.Path.{_≡_, refl}
+use mathlib.Core.Path.{_≡_, refl, sym, _∙_}
 use mathlib.Core.Bool.{_&&_, and-assoc}
 use mathlib.Core.List.{List}
 use lib.ListN.{length, getD}
-use lib.Dec.{eqb}
+use lib.Dec.{eqb, lit<}
 use Rattle.model.specs.Lists.{same}
 use Rattle.model.specs.Numbers.{bigEndian, Bytes, part}
 use Rattle.model.specs.Table.{readEntry}
-use Rattle.model.proofs.NumberLaws.{big-lt}
-use Rattle.layout.specs.Shape.{zerosAt}
+use Rattle.model.proofs.NumberLaws.{big-lt, big-one}
+use Rattle.layout.specs.Shape.{zerosAt, unusedShape}
 use Rattle.layout.specs.Held.{holdingAt}
 use Rattle.layout.proofs.AddressLaws.{big-add, halves-are}
-use Rattle.octets.proofs.Laws.{zero-both, zero-number}
+use Rattle.octets.proofs.Laws.{zeroBytes, zero-both, zero-number}
+use Rattle.octets.proofs.Cover.{cover}
 use Rattle.record.specs.Asked.{sameAsked}
 
--- the 18 zeros of an unused line as three numbers
-pub line-zeros : (s : List ℕ) (a : ℕ) → a + 19 ≤ length s
-    → zerosAt s (a + 1) 18 ≡ eqb (bigEndian s (a + 1) 8) 0 && (eqb (bigEndian s (a + 9) 8) 0 && eqb (bigEndian s (a + 17) 2) 0)
-line-zeros s a h =
-    let e : a + 1 + 8 ≡ a + 9 = omega arith in
-    let f : a + 9 + 8 ≡ a + 17 = omega arith in
-    let l : a + 1 + 8 ≤ length s = omega arith in
-    let m : a + 9 + 8 ≤ length s = omega arith in
-    let n : a + 17 + 2 ≤ length s = omega arith in
-    let p = zero-both s (a + 1) 18 8 10 refl (omega arith) in
-    let q = zero-both s (a + 9) 10 8 2 refl (omega arith) in
-    rw (← p, e, ← q, f, zero-number s (a + 1) 8 l, zero-number s (a + 9) 8 m, zero-number s (a + 17) 2 n)
+-- the first eight bytes of a line, of kind k and seven zeros
+head-is : (s : List ℕ) (a k : ℕ) → Bytes s → a + 8 ≤ length s → eqb (getD s a 0) k && zerosAt s (a + 1) 7 ≡ eqb (bigEndian s a 8) (k * 256 ^ 7 + 0)
+head-is s a k b h =
+    let l : a + 1 + 7 ≤ length s = omega arith in
+    rw (big-add s a 1 7, big-one s a, zero-number s (a + 1) 7 l)
+    (sym (halves-are (256 ^ 7) (getD s a 0) (bigEndian s (a + 1) 7) k 0 (big-lt s (a + 1) 7 b) (lit< tt)))
+
+-- an unused line as three numbers that lie over each other
+pub unused-is : (s : List ℕ) (a : ℕ) → Bytes s → a + 19 ≤ length s
+    → unusedShape s a ≡ eqb (bigEndian s a 8) (2 * 256 ^ 7) && (eqb (bigEndian s (a + 8) 8) 0 && eqb (bigEndian s (a + 11) 8) 0)
+unfolding unusedShape
+unused-is s a b h =
+    let e : a + 1 + 7 ≡ a + 8 = omega arith in
+    let f : a + 8 + 3 ≡ a + 11 = omega arith in
+    let m : a + 8 + 8 ≤ length s = omega arith in
+    let n : a + 11 + 8 ≤ length s = omega arith in
+    let p = zero-both s (a + 1) 18 7 11 refl (omega arith) in
+    let q = cover (zeroBytes s) _ (zero-both s) (a + 8) 11 8 8 (omega arith) (omega arith) (omega arith) (omega arith) in
+    rw (← p, e, ← q, f, zero-number s (a + 8) 8 m, zero-number s (a + 11) 8 n)
+    (sym (and-assoc (eqb (getD s a 0) 2) (zerosAt s (a + 1) 7) (eqb (bigEndian s (a + 8) 8) 0 && eqb (bigEndian s (a + 11) 8) 0))
+    ∙ rw (head-is s a 2 b (omega arith)))
 
 -- two numbers of four bytes are the same exactly if both halves are
 fields-are : (s : List ℕ) (a c : ℕ) → Bytes s

@@ -33,37 +33,36 @@ pub fn has_address(t: &[u8], a: usize, hi: u64, lo: u64) -> bool
     false
 }
 
-// A slot's zeros are as its kind has them: behind the name of an entry, all of a free slot.
+// A slot's zeros are as its kind has them: behind the name of an entry, all of a free slot. One call, so that it is compiled in place.
 pub fn slot_shape(t: &[u8], a: usize) -> bool
     requires { ⌜ a + 320 ≤ length (now t) ⌝ }
     ensures { λ r. ⌜ r ≡ slotShape (now (t .entry)) a ⌝ }
 {
     let kind = t[a];
+    let mut from: usize = 1;
     if in_use(kind) {
-        let len = t[a + 39] as usize;
-        return octets::zeros(t, a + 40 + len, 280 - len);
+        from = 40 + t[a + 39] as usize;
+    } else if kind != 4 {
+        return false;
     }
-    if kind == 4 {
-        return octets::zeros(t, a + 1, 319);
-    }
-    false
+    octets::zeros(t, a + from, 320 - from)
 }
 
-// An unused roster line: its 18 bytes of zeros as numbers of 8, 8 and 2 bytes.
+// 2 * 2^56: the kind 2 and seven zeros.
+const UNUSED_HEAD: u64 = 144115188075855872;
+
+// An unused roster line: its 19 bytes as three numbers of 8 that lie over each other.
 pub fn unused_shape(t: &[u8], a: usize) -> bool
     requires { ⌜ a + 19 ≤ length (now t) ⌝ }
     ensures { λ r. ⌜ r ≡ unusedShape (now (t .entry)) a ⌝ }
 {
-    if t[a] != 2 {
+    if octets::get64(t, a) != UNUSED_HEAD {
         return false;
     }
-    if octets::get64(t, a + 1) != 0 {
+    if octets::get64(t, a + 8) != 0 {
         return false;
     }
-    if octets::get64(t, a + 9) != 0 {
-        return false;
-    }
-    octets::get16(t, a + 17) == 0
+    octets::get64(t, a + 11) == 0
 }
 
 // A line's rules: share ≤ limit, limit is 1 to 64.

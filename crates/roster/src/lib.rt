@@ -1,6 +1,6 @@
 // Roster lines, one after the other from a base: the rules of a roster, and what the lines say of an address.
 ghost use mathlib.Core.Path.{_≡_};
-ghost use mathlib.Core.Bool.{not};
+ghost use mathlib.Core.Bool.{not, _&&_};
 ghost use Prim.Native.Nat.{_+_, _*_, _^_, _≤_, _<_};
 ghost use lib.ListN.{length, getD};
 ghost use lib.Dec.{eqb};
@@ -112,7 +112,7 @@ fn wide(x: u8) -> usize
 }
 
 // The sum of the shares.
-fn share_sum(t: &[u8], base: usize, m: usize) -> usize
+pub fn share_sum(t: &[u8], base: usize, m: usize) -> usize
     requires { ⌜ (m ≤ 16) × (base ≤ 9) × (base + 19 * m ≤ length (now t)) ⌝ }
     ensures { λ r. ⌜ r ≡ shares (linesFrom (now (t .entry)) base m) ⌝ }
 {
@@ -125,15 +125,23 @@ fn share_sum(t: &[u8], base: usize, m: usize) -> usize
     s
 }
 
+// Each line meets a line's rules, and listed addresses differ.
+pub fn lines_good(t: &[u8], base: usize, m: usize) -> bool
+    requires { ⌜ (m ≤ 16) × (base ≤ 9) × (base + 19 * m ≤ length (now t)) ⌝ }
+    ensures { λ r. ⌜ r ≡ (every validLine (linesFrom (now (t .entry)) base m) && noTwo sameAddress (linesFrom (now (t .entry)) base m)) ⌝ }
+{
+    if !lines_valid(t, base, m) {
+        return false;
+    }
+    lines_apart(t, base, m)
+}
+
 // The roster rules of n slots.
 pub fn lines_sound(t: &[u8], base: usize, m: usize, n: usize) -> bool
     requires { ⌜ (m ≤ 16) × (base ≤ 9) × (base + 19 * m ≤ length (now t)) ⌝ }
     ensures { λ r. ⌜ r ≡ soundRoster n (linesFrom (now (t .entry)) base m) ⌝ }
 {
-    if !lines_valid(t, base, m) {
-        return false;
-    }
-    if !lines_apart(t, base, m) {
+    if !lines_good(t, base, m) {
         return false;
     }
     share_sum(t, base, m) <= n

@@ -1,3 +1,4 @@
 pub mod FitLaws
 pub mod PairLaws
 pub mod FirstLaws
+pub mod TakeLaws

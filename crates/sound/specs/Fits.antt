@@ -1,12 +1,12 @@
 -- What the pass over the holders tests, slot by slot. Assumes nothing.
 use Prim.Native.Nat.{ℕ, _+_}
-use mathlib.Core.Bool.{Bool, not, _&&_}
+use mathlib.Core.Bool.{Bool, not, cond, _&&_}
 use mathlib.Core.List.{List}
 use lib.Dec.{leb}
-use Rattle.model.specs.Lists.{count, every, noTwo}
+use Rattle.model.specs.Lists.{count, any, every, noTwo}
 use Rattle.model.specs.Table.{Line}
-use Rattle.model.specs.Rules.{Holding, heldBy, limitOf}
-use Rattle.model.specs.Sound.{sameQuestion}
+use Rattle.model.specs.Rules.{Holding, numbered, heldBy, limitOf, shareOf, reserve}
+use Rattle.model.specs.Sound.{sameNumber, sameQuestion}
 use Rattle.layout.specs.Held.{heldTo, within}
 
 -- a holding, with those below slot i: none has its address and question, and its address is within its limit
@@ -16,3 +16,18 @@ fits b ls i k = every (λ h. not (sameQuestion h k)) (heldTo b i) && leb (count 
 -- of those below slot i no two have one address and question, and no address holds more than its limit
 abbrev pub fitted : List ℕ → List Line → ℕ → Bool
 fitted b ls i = noTwo sameQuestion (heldTo b i) && every (within ls (heldTo b i)) (heldTo b i)
+
+-- What one holding more takes of the slots that no share keeps for its address, which has k: none below its share, one from there on; 2 where the
+-- address is at its limit.
+abbrev pub takenBy : ℕ → ℕ → ℕ → ℕ
+takenBy share limit k = cond (leb (k + 1) share) 0 (cond (leb (k + 1) limit) 1 2)
+
+-- the same of a holding, with those below slot i; 2 also where one of them has its number, or its address and question
+abbrev pub takes : List ℕ → List Line → ℕ → Holding → ℕ
+takes b ls i k =
+    cond (every (λ h. not (numbered (k .number) h)) (heldTo b i) && every (λ h. not (sameQuestion h k)) (heldTo b i))
+    (takenBy (shareOf ls (k .address)) (limitOf ls (k .address)) (count (heldTo b i) (heldBy (k .address)))) 2
+
+-- the rules of entries that two of them, or they and the roster, have to meet, with n slots
+abbrev pub together : List ℕ → List Line → ℕ → Bool
+together b ls n = noTwo sameNumber (heldTo b n) && (fitted b ls n && leb (reserve ls (count (heldTo b n)) + count (heldTo b n) any) n)

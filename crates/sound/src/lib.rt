@@ -7,13 +7,17 @@ ghost use lib.Dec.{leb, ltb};
 ghost use Rattle.model.specs.Numbers.{bigEndian};
 ghost use Rattle.model.specs.Clock.{cycle};
 ghost use Rattle.model.specs.Lists.{every, noTwo};
-ghost use Rattle.model.specs.Table.{slotAt, listed};
-ghost use Rattle.model.specs.Rules.{numbered, heldBy, limitOf};
-ghost use Rattle.model.specs.Sound.{validLine, validEntry, sameNumber, soundRoster, soundHoldings, soundBytes};
+ghost use Rattle.model.specs.Table.{slotAt, lineAt, listed};
+ghost use Rattle.model.specs.Rules.{numbered, heldBy, limitOf, shareOf};
+ghost use Rattle.model.specs.Rules.{shares as sharesOf};
+ghost use Rattle.model.specs.Sound.{validLine, validEntry, sameNumber, sameAddress, soundRoster, soundHoldings, soundBytes};
 ghost use Rattle.model.specs.Calls.{goodRoster};
 ghost use Rattle.layout.specs.Shape.{all, slotShape, linesTo, tableShape};
 ghost use Rattle.layout.specs.Held.{holdingAt, heldTo, okAt};
-ghost use Rattle.sound.specs.Fits.{fits, fitted};
+ghost use Rattle.sound.specs.Fits.{fits, fitted, takenBy, takes, together};
+
+// As many slots are few: all pairs of their entries are compared.
+const FEW: usize = 8;
 
 // Each slot has its kind's zeros.
 fn slots_shape(t: &[u8], n: usize) -> bool
@@ -182,14 +186,88 @@ fn holders_fit(t: &[u8], n: usize, m: usize) -> bool
     true
 }
 
-// The rules of the entries.
-fn holdings_sound(t: &[u8], n: usize, m: usize) -> bool
-    requires { ⌜ (n ≤ 64) × (m ≤ 16) × (slotAt n ≤ length (now t)) × (every validLine (linesTo (now t) m) ≡ true) ⌝ }
-    ensures { λ r. ⌜ r ≡ soundHoldings n (linesTo (now (t .entry)) m) (heldTo (now (t .entry)) n) ⌝ }
+// What one entry more takes of the slots that no share keeps for its address, which holds k: none below its share, one from there on; 2 at its limit.
+fn taken_by(share: u8, limit: u8, k: usize) -> usize
+    requires { ⌜ k ≤ 64 ⌝ }
+    ensures { λ r. ⌜ r ≡ takenBy share limit k ⌝ }
 {
-    if !entries_valid(t, n) {
-        return false;
+    if k < share as usize {
+        return 0;
     }
+    if k < limit as usize {
+        return 1;
+    }
+    2
+}
+
+// The same by the first m lines.
+fn taken(t: &[u8], m: usize, k: usize, hi: u64, lo: u64) -> usize
+    requires { ⌜ (k ≤ 64) × (lineAt m ≤ length (now t)) ⌝ }
+    ensures { λ r. ⌜ r ≡ takenBy (shareOf (linesTo (now (t .entry)) m) (hi * 2 ^ 64 + lo)) (limitOf (linesTo (now (t .entry)) m) (hi * 2 ^ 64 + lo)) k ⌝ }
+{
+    let mut i: usize = 0;
+    while i < m {
+        let a = layout::LINES_AT + layout::LINE * i;
+        if record::has_address(t, a + 1, hi, lo) {
+            return taken_by(t[a + 17], t[a + 18], k);
+        }
+        i += 1;
+    }
+    taken_by(0, 4, k)
+}
+
+// What the entry at c takes, with those below slot i: number and holder are looked at in one walk.
+fn entry_takes(t: &[u8], i: usize, c: usize, m: usize) -> usize
+    requires { ⌜ (i ≤ 64) × (m ≤ 16) × (slotAt i ≤ length (now t)) × (c + 320 ≤ length (now t)) ⌝ }
+    ensures { λ r. ⌜ r ≡ takes (now (t .entry)) (linesTo (now (t .entry)) m) i (holdingAt (now (t .entry)) c) ⌝ }
+{
+    let number = octets::get64(t, c + 19);
+    let hi = octets::get64(t, c + 1);
+    let lo = octets::get64(t, c + 9);
+    let mut k: usize = 0;
+    let mut j: usize = 0;
+    while j < i {
+        let a = layout::SLOTS_AT + layout::SLOT * j;
+        if record::has_number(t, a, number) {
+            return 2;
+        }
+        if record::has_holder(t, a, hi, lo) {
+            if record::same_asked(t, a, c) {
+                return 2;
+            }
+            k += 1;
+        }
+        j += 1;
+    }
+    taken(t, m, k, hi, lo)
+}
+
+// A table of few slots: each entry is compared with all before it. The shares are all that is kept back before the first entry; an entry takes from what its address's share keeps, or one slot more.
+fn few_together(t: &[u8], n: usize, m: usize, shares: usize) -> bool
+    requires { ⌜ (n ≤ 64) × (m ≤ 16) × (slotAt n ≤ length (now t)) × (shares ≤ 64) × (shares ≡ sharesOf (linesTo (now t) m)) × (every validLine (linesTo (now t) m) ≡ true) × (noTwo sameAddress (linesTo (now t) m) ≡ true) ⌝ }
+    ensures { λ r. ⌜ r ≡ together (now (t .entry)) (linesTo (now (t .entry)) m) n ⌝ }
+{
+    let mut k = shares;
+    let mut i: usize = 0;
+    while i < n {
+        let a = layout::SLOTS_AT + layout::SLOT * i;
+        if record::in_use(t[a]) {
+            let x = entry_takes(t, i, a, m);
+            if x > 1 {
+                return false;
+            }
+            k += x;
+        }
+        i += 1;
+    }
+    k <= n
+}
+
+// A table of many slots: pass by pass, with the tables of first slots.
+fn many_together(t: &[u8], n: usize, m: usize) -> bool
+    requires { ⌜ (n ≤ 64) × (m ≤ 16) × (slotAt n ≤ length (now t)) × (every validLine (linesTo (now t) m) ≡ true) ⌝ }
+    ensures { λ r. ⌜ r ≡ together (now (t .entry)) (linesTo (now (t .entry)) m) n ⌝ }
+{
     if !numbers_apart(t, n) {
         return false;
     }
@@ -203,6 +281,20 @@ fn holdings_sound(t: &[u8], n: usize, m: usize) -> bool
     kept + holdings::held(t, n) <= n
 }
 
+// The rules of the entries. Up to FEW slots, comparing all pairs takes less time than setting the tables of first slots up.
+fn holdings_sound(t: &[u8], n: usize, m: usize, shares: usize) -> bool
+    requires { ⌜ (n ≤ 64) × (m ≤ 16) × (slotAt n ≤ length (now t)) × (shares ≤ 64) × (shares ≡ sharesOf (linesTo (now t) m)) × (every validLine (linesTo (now t) m) ≡ true) × (noTwo sameAddress (linesTo (now t) m) ≡ true) ⌝ }
+    ensures { λ r. ⌜ r ≡ soundHoldings n (linesTo (now (t .entry)) m) (heldTo (now (t .entry)) n) ⌝ }
+{
+    if !entries_valid(t, n) {
+        return false;
+    }
+    if n <= FEW {
+        return few_together(t, n, m, shares);
+    }
+    many_together(t, n, m)
+}
+
 // The rules of a table of n slots.
 fn rules_sound(t: &[u8], n: usize, m: usize) -> bool
     requires { ⌜ (n ≤ 64) × (m ≤ 16) × (slotAt n ≤ length (now t)) ⌝ }
@@ -211,10 +303,14 @@ fn rules_sound(t: &[u8], n: usize, m: usize) -> bool
     if octets::get32(t, layout::PLACE_AT) >= 619315200 {
         return false;
     }
-    if !roster::lines_sound(t, 9, m, n) {
+    if !roster::lines_good(t, 9, m) {
         return false;
     }
-    holdings_sound(t, n, m)
+    let shares = roster::share_sum(t, 9, m);
+    if shares > n {
+        return false;
+    }
+    holdings_sound(t, n, m, shares)
 }
 
 // The bytes are those of a sound table.

@@ -4,228 +4,236 @@ use Rattle.octets.proofs.get64.Statement.{statement}
 use Rattle.octets.proofs.get64.Tie as tie
 use Prim.Native.Nat.{_+_}
 use native.Mathlib.Omega.{arith}
+use mathlib.Core.Path.{_∙_}
 use denote.Ref.{now}
-use Rattle.octets.proofs.Laws.{chain-is}
+use Rattle.octets.proofs.Laws.{low-first-is}
 
-shared-slice-read-a : tie.Need-shared-slice-read-a
-shared-slice-read-a c = search needs
+shared-slice-read-swapped64 : tie.Need-shared-slice-read-swapped64
+shared-slice-read-swapped64 c = search needs
 
-cast-a : tie.Need-cast-a
-cast-a c =
-    let g = c .shared-slice-known .given in
-    let a = c .before .args .at in
+cast-swapped64 : tie.Need-cast-swapped64
+cast-swapped64 c =
+    let g = c .shared-slice-known2 .given in
+    let a = c .before .before .args .at in
     omega (arith, g a)
 
-mul-a : tie.Need-mul-a
-mul-a c =
-    let g = c .shared-slice-known .given in
-    let a = c .before .args .at in
-    omega (arith, g a)
+add-swapped64 : tie.Need-add-swapped64
+add-swapped64 c = search needs
 
-add-a : tie.Need-add-a
-add-a c = search needs
+shared-slice-read-swapped64-2 : tie.Need-shared-slice-read-swapped64-2
+shared-slice-read-swapped64-2 c = search needs
 
-shared-slice-read-a-2 : tie.Need-shared-slice-read-a-2
-shared-slice-read-a-2 c = search needs
-
-cast-a-2 : tie.Need-cast-a-2
-cast-a-2 c =
-    let g = c .shared-slice-known2 .given in
-    let a = c .before .before .args .at in
-    omega (arith, g a, g (a + 1))
-
-add-a-2 : tie.Need-add-a-2
-add-a-2 c =
-    let g = c .shared-slice-known2 .given in
-    let a = c .before .before .args .at in
-    omega (arith, g a, g (a + 1))
-
-mul-b : tie.Need-mul-b
-mul-b c =
-    let g = c .shared-slice-known2 .given in
-    let a = c .before .before .args .at in
-    omega (arith, g a, g (a + 1))
-
-add-b : tie.Need-add-b
-add-b c = search needs
-
-shared-slice-read-b : tie.Need-shared-slice-read-b
-shared-slice-read-b c = search needs
-
-cast-b : tie.Need-cast-b
-cast-b c =
+cast-swapped64-2 : tie.Need-cast-swapped64-2
+cast-swapped64-2 c =
     let g = c .shared-slice-known3 .given in
     let a = c .before .before .before .args .at in
-    omega (arith, g a, g (a + 1), g (a + 2))
+    omega (arith, g (a + 1))
 
-add-b-2 : tie.Need-add-b-2
-add-b-2 c =
+mul-swapped64 : tie.Need-mul-swapped64
+mul-swapped64 c =
     let g = c .shared-slice-known3 .given in
     let a = c .before .before .before .args .at in
-    omega (arith, g a, g (a + 1), g (a + 2))
+    omega (arith, g (a + 1))
 
-mul-c : tie.Need-mul-c
-mul-c c =
+add-swapped64-2 : tie.Need-add-swapped64-2
+add-swapped64-2 c =
     let g = c .shared-slice-known3 .given in
     let a = c .before .before .before .args .at in
+    omega (arith, g a, g (a + 1))
+
+add-swapped64-3 : tie.Need-add-swapped64-3
+add-swapped64-3 c = search needs
+
+shared-slice-read-swapped64-3 : tie.Need-shared-slice-read-swapped64-3
+shared-slice-read-swapped64-3 c = search needs
+
+cast-swapped64-3 : tie.Need-cast-swapped64-3
+cast-swapped64-3 c =
+    let g = c .shared-slice-known4 .given in
+    let a = c .before .before .before .before .args .at in
+    omega (arith, g (a + 2))
+
+mul-swapped64-2 : tie.Need-mul-swapped64-2
+mul-swapped64-2 c =
+    let g = c .shared-slice-known4 .given in
+    let a = c .before .before .before .before .args .at in
+    omega (arith, g (a + 2))
+
+add-swapped64-4 : tie.Need-add-swapped64-4
+add-swapped64-4 c =
+    let g = c .shared-slice-known4 .given in
+    let a = c .before .before .before .before .args .at in
     omega (arith, g a, g (a + 1), g (a + 2))
 
-add-c : tie.Need-add-c
-add-c c = search needs
+add-swapped64-5 : tie.Need-add-swapped64-5
+add-swapped64-5 c = search needs
 
-shared-slice-read-c : tie.Need-shared-slice-read-c
-shared-slice-read-c c = search needs
+shared-slice-read-swapped64-4 : tie.Need-shared-slice-read-swapped64-4
+shared-slice-read-swapped64-4 c = search needs
 
-cast-c : tie.Need-cast-c
-cast-c c =
-    let g = c .shared-slice-known4 .given in
-    let a = c .before .before .before .before .args .at in
-    omega (arith, g a, g (a + 1), g (a + 2), g (a + 3))
-
-add-c-2 : tie.Need-add-c-2
-add-c-2 c =
-    let g = c .shared-slice-known4 .given in
-    let a = c .before .before .before .before .args .at in
-    omega (arith, g a, g (a + 1), g (a + 2), g (a + 3))
-
-mul-d : tie.Need-mul-d
-mul-d c =
-    let g = c .shared-slice-known4 .given in
-    let a = c .before .before .before .before .args .at in
-    omega (arith, g a, g (a + 1), g (a + 2), g (a + 3))
-
-add-d : tie.Need-add-d
-add-d c = search needs
-
-shared-slice-read-d : tie.Need-shared-slice-read-d
-shared-slice-read-d c = search needs
-
-cast-d : tie.Need-cast-d
-cast-d c =
+cast-swapped64-4 : tie.Need-cast-swapped64-4
+cast-swapped64-4 c =
     let g = c .shared-slice-known5 .given in
     let a = c .before .before .before .before .before .args .at in
-    omega (arith, g a, g (a + 1), g (a + 2), g (a + 3), g (a + 4))
+    omega (arith, g (a + 3))
 
-add-d-2 : tie.Need-add-d-2
-add-d-2 c =
+mul-swapped64-3 : tie.Need-mul-swapped64-3
+mul-swapped64-3 c =
     let g = c .shared-slice-known5 .given in
     let a = c .before .before .before .before .before .args .at in
-    omega (arith, g a, g (a + 1), g (a + 2), g (a + 3), g (a + 4))
+    omega (arith, g (a + 3))
 
-mul-e : tie.Need-mul-e
-mul-e c =
+add-swapped64-6 : tie.Need-add-swapped64-6
+add-swapped64-6 c =
     let g = c .shared-slice-known5 .given in
     let a = c .before .before .before .before .before .args .at in
+    omega (arith, g a, g (a + 1), g (a + 2), g (a + 3))
+
+add-swapped64-7 : tie.Need-add-swapped64-7
+add-swapped64-7 c = search needs
+
+shared-slice-read-swapped64-5 : tie.Need-shared-slice-read-swapped64-5
+shared-slice-read-swapped64-5 c = search needs
+
+cast-swapped64-5 : tie.Need-cast-swapped64-5
+cast-swapped64-5 c =
+    let g = c .shared-slice-known6 .given in
+    let a = c .before .before .before .before .before .before .args .at in
+    omega (arith, g (a + 4))
+
+mul-swapped64-4 : tie.Need-mul-swapped64-4
+mul-swapped64-4 c =
+    let g = c .shared-slice-known6 .given in
+    let a = c .before .before .before .before .before .before .args .at in
+    omega (arith, g (a + 4))
+
+add-swapped64-8 : tie.Need-add-swapped64-8
+add-swapped64-8 c =
+    let g = c .shared-slice-known6 .given in
+    let a = c .before .before .before .before .before .before .args .at in
     omega (arith, g a, g (a + 1), g (a + 2), g (a + 3), g (a + 4))
 
-add-e : tie.Need-add-e
-add-e c = search needs
+add-swapped64-9 : tie.Need-add-swapped64-9
+add-swapped64-9 c = search needs
 
-shared-slice-read-e : tie.Need-shared-slice-read-e
-shared-slice-read-e c = search needs
+shared-slice-read-swapped64-6 : tie.Need-shared-slice-read-swapped64-6
+shared-slice-read-swapped64-6 c = search needs
 
-cast-e : tie.Need-cast-e
-cast-e c =
-    let g = c .shared-slice-known6 .given in
-    let a = c .before .before .before .before .before .before .args .at in
-    omega (arith, g a, g (a + 1), g (a + 2), g (a + 3), g (a + 4), g (a + 5))
-
-add-e-2 : tie.Need-add-e-2
-add-e-2 c =
-    let g = c .shared-slice-known6 .given in
-    let a = c .before .before .before .before .before .before .args .at in
-    omega (arith, g a, g (a + 1), g (a + 2), g (a + 3), g (a + 4), g (a + 5))
-
-mul-f : tie.Need-mul-f
-mul-f c =
-    let g = c .shared-slice-known6 .given in
-    let a = c .before .before .before .before .before .before .args .at in
-    omega (arith, g a, g (a + 1), g (a + 2), g (a + 3), g (a + 4), g (a + 5))
-
-add-f : tie.Need-add-f
-add-f c = search needs
-
-shared-slice-read-f : tie.Need-shared-slice-read-f
-shared-slice-read-f c = search needs
-
-cast-f : tie.Need-cast-f
-cast-f c =
+cast-swapped64-6 : tie.Need-cast-swapped64-6
+cast-swapped64-6 c =
     let g = c .shared-slice-known7 .given in
     let a = c .before .before .before .before .before .before .before .args .at in
-    omega (arith, g a, g (a + 1), g (a + 2), g (a + 3), g (a + 4), g (a + 5), g (a + 6))
+    omega (arith, g (a + 5))
 
-add-f-2 : tie.Need-add-f-2
-add-f-2 c =
+mul-swapped64-5 : tie.Need-mul-swapped64-5
+mul-swapped64-5 c =
     let g = c .shared-slice-known7 .given in
     let a = c .before .before .before .before .before .before .before .args .at in
-    omega (arith, g a, g (a + 1), g (a + 2), g (a + 3), g (a + 4), g (a + 5), g (a + 6))
+    omega (arith, g (a + 5))
 
-mul-result : tie.Need-mul-result
-mul-result c =
+add-swapped64-10 : tie.Need-add-swapped64-10
+add-swapped64-10 c =
     let g = c .shared-slice-known7 .given in
     let a = c .before .before .before .before .before .before .before .args .at in
-    omega (arith, g a, g (a + 1), g (a + 2), g (a + 3), g (a + 4), g (a + 5), g (a + 6))
+    omega (arith, g a, g (a + 1), g (a + 2), g (a + 3), g (a + 4), g (a + 5))
 
-add-result : tie.Need-add-result
-add-result c = search needs
+add-swapped64-11 : tie.Need-add-swapped64-11
+add-swapped64-11 c = search needs
 
-shared-slice-read-result : tie.Need-shared-slice-read-result
-shared-slice-read-result c = search needs
+shared-slice-read-swapped64-7 : tie.Need-shared-slice-read-swapped64-7
+shared-slice-read-swapped64-7 c = search needs
 
-cast-result : tie.Need-cast-result
-cast-result c =
+cast-swapped64-7 : tie.Need-cast-swapped64-7
+cast-swapped64-7 c =
     let g = c .shared-slice-known8 .given in
     let a = c .before .before .before .before .before .before .before .before .args .at in
-    omega (arith, g a, g (a + 1), g (a + 2), g (a + 3), g (a + 4), g (a + 5), g (a + 6), g (a + 7))
+    omega (arith, g (a + 6))
 
-add-result-2 : tie.Need-add-result-2
-add-result-2 c =
+mul-swapped64-6 : tie.Need-mul-swapped64-6
+mul-swapped64-6 c =
     let g = c .shared-slice-known8 .given in
     let a = c .before .before .before .before .before .before .before .before .args .at in
+    omega (arith, g (a + 6))
+
+add-swapped64-12 : tie.Need-add-swapped64-12
+add-swapped64-12 c =
+    let g = c .shared-slice-known8 .given in
+    let a = c .before .before .before .before .before .before .before .before .args .at in
+    omega (arith, g a, g (a + 1), g (a + 2), g (a + 3), g (a + 4), g (a + 5), g (a + 6))
+
+add-swapped64-13 : tie.Need-add-swapped64-13
+add-swapped64-13 c = search needs
+
+shared-slice-read-swapped64-8 : tie.Need-shared-slice-read-swapped64-8
+shared-slice-read-swapped64-8 c = search needs
+
+cast-swapped64-8 : tie.Need-cast-swapped64-8
+cast-swapped64-8 c =
+    let g = c .shared-slice-known9 .given in
+    let a = c .before .before .before .before .before .before .before .before .before .args .at in
+    omega (arith, g (a + 7))
+
+mul-swapped64-7 : tie.Need-mul-swapped64-7
+mul-swapped64-7 c =
+    let g = c .shared-slice-known9 .given in
+    let a = c .before .before .before .before .before .before .before .before .before .args .at in
+    omega (arith, g (a + 7))
+
+add-swapped64-14 : tie.Need-add-swapped64-14
+add-swapped64-14 c =
+    let g = c .shared-slice-known9 .given in
+    let a = c .before .before .before .before .before .before .before .before .before .args .at in
     omega (arith, g a, g (a + 1), g (a + 2), g (a + 3), g (a + 4), g (a + 5), g (a + 6), g (a + 7))
+
+swapped64-requires : tie.Need-swapped64-requires
+swapped64-requires c κs = search needs
 
 returns : tie.Need-returns
-returns c = chain-is 7 (now (c .before .before .before .before .before .before .before .before .args .s)) (c .before .before .before .before .before .before .before .before .args .at)
+returns c =
+    let g = c .before .shared-slice-known9 .given in
+    let a = c .before .before .before .before .before .before .before .before .before .before .args in
+    c .swapped64 .ensures ∙ low-first-is 7 (now (a .s)) (a .at) (λ i. omega (arith, g i))
 
 pub get64-spec : {M : Type 1} → statement M
 get64-spec =
     tie.close
     (tie.spec
-    shared-slice-read-a
-    cast-a
-    mul-a
-    add-a
-    shared-slice-read-a-2
-    cast-a-2
-    add-a-2
-    mul-b
-    add-b
-    shared-slice-read-b
-    cast-b
-    add-b-2
-    mul-c
-    add-c
-    shared-slice-read-c
-    cast-c
-    add-c-2
-    mul-d
-    add-d
-    shared-slice-read-d
-    cast-d
-    add-d-2
-    mul-e
-    add-e
-    shared-slice-read-e
-    cast-e
-    add-e-2
-    mul-f
-    add-f
-    shared-slice-read-f
-    cast-f
-    add-f-2
-    mul-result
-    add-result
-    shared-slice-read-result
-    cast-result
-    add-result-2
+    shared-slice-read-swapped64
+    cast-swapped64
+    add-swapped64
+    shared-slice-read-swapped64-2
+    cast-swapped64-2
+    mul-swapped64
+    add-swapped64-2
+    add-swapped64-3
+    shared-slice-read-swapped64-3
+    cast-swapped64-3
+    mul-swapped64-2
+    add-swapped64-4
+    add-swapped64-5
+    shared-slice-read-swapped64-4
+    cast-swapped64-4
+    mul-swapped64-3
+    add-swapped64-6
+    add-swapped64-7
+    shared-slice-read-swapped64-5
+    cast-swapped64-5
+    mul-swapped64-4
+    add-swapped64-8
+    add-swapped64-9
+    shared-slice-read-swapped64-6
+    cast-swapped64-6
+    mul-swapped64-5
+    add-swapped64-10
+    add-swapped64-11
+    shared-slice-read-swapped64-7
+    cast-swapped64-7
+    mul-swapped64-6
+    add-swapped64-12
+    add-swapped64-13
+    shared-slice-read-swapped64-8
+    cast-swapped64-8
+    mul-swapped64-7
+    add-swapped64-14
+    swapped64-requires
     returns)

@@ -3,15 +3,14 @@ use borrow.Author.Needs.{needs}
 use Rattle.octets.proofs.put32.Statement.{statement}
 use Rattle.octets.proofs.put32.Tie as tie
 use native.Mathlib.Omega.{arith}
-use native.Mathlib.Nat.{add-zero}
 use lib.ListN.{length-set}
 use Rattle.octets.proofs.Laws.{stores-is}
 
+swapped32-requires : tie.Need-swapped32-requires
+swapped32-requires c κs = search needs
+
 cast-s : tie.Need-cast-s
 cast-s c = search needs
-
-add-s : tie.Need-add-s
-add-s c = search needs
 
 slice-write-s : tie.Need-slice-write-s
 slice-write-s c = search needs
@@ -19,8 +18,8 @@ slice-write-s c = search needs
 cast-s-2 : tie.Need-cast-s-2
 cast-s-2 c = search needs
 
-add-s-2 : tie.Need-add-s-2
-add-s-2 c = search needs
+add-s : tie.Need-add-s
+add-s c = search needs
 
 slice-write-s-2 : tie.Need-slice-write-s-2
 slice-write-s-2 c = simp length-set (omega arith)
@@ -28,14 +27,17 @@ slice-write-s-2 c = simp length-set (omega arith)
 cast-s-3 : tie.Need-cast-s-3
 cast-s-3 c = search needs
 
-add-s-3 : tie.Need-add-s-3
-add-s-3 c = search needs
+add-s-2 : tie.Need-add-s-2
+add-s-2 c = search needs
 
 slice-write-s-3 : tie.Need-slice-write-s-3
 slice-write-s-3 c = simp length-set (omega arith)
 
 cast-s-4 : tie.Need-cast-s-4
 cast-s-4 c = search needs
+
+add-s-3 : tie.Need-add-s-3
+add-s-3 c = search needs
 
 slice-write-s-4 : tie.Need-slice-write-s-4
 slice-write-s-4 c = simp length-set (omega arith)
@@ -44,22 +46,25 @@ same-length : tie.Need-same-length
 same-length c = simp length-set
 
 returns : tie.Need-returns
-returns c = rw add-zero at (stores-is 4 (c .args .at) (c .args .s .now) (c .args .x) (omega arith))
+returns c =
+    let a = c .before .before .args in
+    stores-is 3 (a .at) (a .s .now) (a .x) (c .swapped32 .ensures) (omega arith)
 
 pub put32-spec : {M : Type 1} → statement M
 put32-spec =
     tie.close
     (tie.spec
+    swapped32-requires
     cast-s
-    add-s
     slice-write-s
     cast-s-2
-    add-s-2
+    add-s
     slice-write-s-2
     cast-s-3
-    add-s-3
+    add-s-2
     slice-write-s-3
     cast-s-4
+    add-s-3
     slice-write-s-4
     same-length
     returns)

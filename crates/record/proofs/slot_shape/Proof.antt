@@ -1,9 +1,11 @@
--- `record::slot_shape` meets its contract: the kind picks the zeros. Assumes nothing.
-use Prim.Native.Nat.{_+_}
-use mathlib.Core.Path.{sym, _∙_}
+-- `record::slot_shape` meets its contract: the kind says where the zeros start. Assumes nothing.
+use Prim.Native.Nat.{_+_, _-_}
+use mathlib.Core.Path.{_≡_, sym, _∙_}
+use mathlib.Core.Logic.{⊎-elim}
 use native.Mathlib.Omega.{arith}
 use borrow.Author.Needs.{needs}
 use borrow.Author.Tests.{eq-eqb, ne-eqb}
+use lib.ListN.{getD}
 use Rattle.layout.specs.Shape.{slotShape}
 use Rattle.record.proofs.slot_shape.Statement.{statement}
 use Rattle.record.proofs.slot_shape.Tie as tie
@@ -18,44 +20,49 @@ shared-slice-read-kind c = search needs
 in-use-requires : tie.Need-in-use-requires
 in-use-requires c κs = search needs
 
-add-len : tie.Need-add-len
-add-len c = search needs
+add-from : tie.Need-add-from
+add-from c = search needs
 
-shared-slice-read-len : tie.Need-shared-slice-read-len
-shared-slice-read-len c = search needs
+shared-slice-read-from : tie.Need-shared-slice-read-from
+shared-slice-read-from c = search needs
 
-cast-len : tie.Need-cast-len
-cast-len c = omega (arith, c .shared-slice-known3 .given (c .before .before .before .before .before .args .a + 39))
+cast-from : tie.Need-cast-from
+cast-from c = omega (arith, c .shared-slice-known3 .given (c .before .before .before .before .before .args .a + 39))
 
-add-zeros : tie.Need-add-zeros
-add-zeros c = search needs
-
-add-zeros-2 : tie.Need-add-zeros-2
-add-zeros-2 c = omega (arith, c .shared-slice-known3 .given (c .before .before .before .before .before .args .a + 39))
-
-sub-zeros : tie.Need-sub-zeros
-sub-zeros c = omega (arith, c .shared-slice-known3 .given (c .before .before .before .before .before .args .a + 39))
-
-zeros-requires : tie.Need-zeros-requires
-zeros-requires c κs = omega (arith, c .shared-slice-known3 .given (c .before .before .before .before .before .args .a + 39))
+add-from-2 : tie.Need-add-from-2
+add-from-2 c = omega (arith, c .shared-slice-known3 .given (c .before .before .before .before .before .args .a + 39))
 
 returns : tie.Need-returns
 unfolding slotShape
-returns c = rw (sym (c .before .before .before .in-use .ensures) ∙ c .before .before .if1 .taken) (c .zeros .ensures)
+returns c = rw (sym (c .before .before .in-use .ensures) ∙ c .before .if1 .left, ne-eqb _ _ (c .if2 .taken))
 
-add-zeros-3 : tie.Need-add-zeros-3
-add-zeros-3 c = search needs
+sub-zeros : tie.Need-sub-zeros
+sub-zeros c =
+    ⊎-elim
+    (λ w. omega (arith, w .1 .given (c .before .before .before .before .before .args .a + 39)))
+    (λ w. omega arith)
+    (c .before .if1 .came)
 
-zeros-requires-2 : tie.Need-zeros-requires-2
-zeros-requires-2 c κs = search needs
+add-zeros : tie.Need-add-zeros
+add-zeros c = omega (arith, sub-zeros c)
+
+zeros-requires : tie.Need-zeros-requires
+zeros-requires c κs = omega (arith, sub-zeros c)
 
 returns-2 : tie.Need-returns-2
 unfolding slotShape
-returns-2 c = rw (sym (c .before .before .before .in-use .ensures) ∙ c .before .before .if1 .left, eq-eqb _ _ (c .before .if2 .taken)) (c .zeros2 .ensures)
-
-returns-3 : tie.Need-returns-3
-unfolding slotShape
-returns-3 c = rw (sym (c .before .before .in-use .ensures) ∙ c .before .if1 .left, ne-eqb _ _ (c .if2 .left))
+returns-2 c =
+    let a = c .before .before .before .before .before .before .args in
+    let from = c .before .before .if1 .from in
+    let len = getD (a .t .now) (a .a + 39) 0 in
+    let u = sym (c .before .before .before .in-use .ensures) in
+    ⊎-elim
+    (λ w.
+    let e : a .a + from ≡ a .a + 40 + len = omega (arith, w .2) in
+    let f : 320 - from ≡ 280 - len = omega (arith, w .2) in
+    rw (u ∙ w .0 .taken) (rw (e, f) at (c .zeros .ensures)))
+    (λ w. rw (u ∙ w .0 .left, eq-eqb _ _ (w .1 .left)) (rw (w .2) at (c .zeros .ensures)))
+    (c .before .before .if1 .came)
 
 pub slot-shape-spec : {M : Type 1} → statement M
 slot-shape-spec =
@@ -63,15 +70,12 @@ slot-shape-spec =
     (tie.spec
     shared-slice-read-kind
     in-use-requires
-    add-len
-    shared-slice-read-len
-    cast-len
+    add-from
+    shared-slice-read-from
+    cast-from
+    add-from-2
+    returns
     add-zeros
-    add-zeros-2
     sub-zeros
     zeros-requires
-    returns
-    add-zeros-3
-    zeros-requires-2
-    returns-2
-    returns-3)
+    returns-2)

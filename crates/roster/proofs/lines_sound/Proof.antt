@@ -7,43 +7,26 @@ use Rattle.roster.proofs.lines_sound.Statement.{statement}
 use Rattle.roster.proofs.lines_sound.Tie as tie
 use Rattle.roster.proofs.lines_sound.Reads as reads
 use Rattle.roster.proofs.lines_sound.Lts as lts
-use Rattle.roster.proofs.lines_apart.Reads as lines-apart-reads
-use Rattle.roster.proofs.lines_valid.Reads as lines-valid-reads
+use Rattle.roster.proofs.lines_good.Reads as lines-good-reads
 use Rattle.roster.proofs.share_sum.Reads as share-sum-reads
 
-lines-valid-requires : tie.Need-lines-valid-requires
-lines-valid-requires c κs = search needs
+-- src/lib.rt:144:9
+lines-good-requires : tie.Need-lines-good-requires
+lines-good-requires c κs = search needs
 
+-- src/lib.rt:145:9
 returns : tie.Need-returns
 unfolding soundRoster
-returns c = rw (sym (c .before .lines-valid .ensures) ∙ not-true _ (c .if1 .taken))
+returns c = rw (sym (c .before .lines-good .ensures) ∙ not-true _ (c .if1 .taken))
 
-lines-apart-requires : tie.Need-lines-apart-requires
-lines-apart-requires c κs = search needs
-
-returns-2 : tie.Need-returns-2
-unfolding soundRoster
-returns-2 c = rw (sym (c .before .before .before .lines-valid .ensures) ∙ not-false _ (c .before .before .if1 .left), sym (c .before .lines-apart .ensures) ∙ not-true _ (c .if2 .taken))
-
+-- src/lib.rt:147:5
 share-sum-requires : tie.Need-share-sum-requires
 share-sum-requires c κs = search needs
 
-returns-3 : tie.Need-returns-3
+-- src/lib.rt:140:1
+returns-2 : tie.Need-returns-2
 unfolding soundRoster
-returns-3 c =
-    rw (
-      sym (c .before .before .before .before .lines-valid .ensures) ∙ not-false _ (c .before .before .before .if1 .left),
-      sym (c .before .before .lines-apart .ensures) ∙ not-false _ (c .before .if2 .left),
-      c .share-sum .ensures,
-    )
+returns-2 c = rw (sym (c .before .before .lines-good .ensures) ∙ not-false _ (c .before .if1 .left), c .share-sum .ensures)
 
 pub lines-sound-spec : {M : Type 1} → statement M
-lines-sound-spec =
-    tie.close
-    (tie.spec
-    lines-valid-requires
-    returns
-    lines-apart-requires
-    returns-2
-    share-sum-requires
-    returns-3)
+lines-sound-spec = tie.close (tie.spec lines-good-requires returns share-sum-requires returns-2)

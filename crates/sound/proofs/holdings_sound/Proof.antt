@@ -1,24 +1,15 @@
--- `sound::holdings_sound` meets its contract: one rule after the other. Assumes nothing.
-use Prim.Native.Nat.{_+_}
-use mathlib.Core.Path.{_≡_, sym, _∙_}
-use native.Mathlib.Omega.{arith}
-use borrow.Author.Tests.{not-true, not-false, le-leb}
-use Rattle.model.specs.Lists.{count, any}
-use Rattle.model.specs.Rules.{reserve}
-use Rattle.layout.specs.Shape.{linesTo}
-use Rattle.layout.specs.Held.{heldTo}
-use Rattle.layout.proofs.HeldLaws.{count-most}
+-- `sound::holdings_sound` meets its contract: each entry's rules, then those of entries together. Assumes nothing.
+use mathlib.Core.Path.{sym, _∙_}
+use borrow.Author.Tests.{not-true, not-false}
 use Rattle.sound.proofs.FitLaws.{holdings-is}
 use borrow.Author.Needs.{needs}
 use Rattle.sound.proofs.holdings_sound.Statement.{statement}
 use Rattle.sound.proofs.holdings_sound.Tie as tie
 use Rattle.sound.proofs.holdings_sound.Reads as reads
 use Rattle.sound.proofs.holdings_sound.Lts as lts
-use Rattle.holdings.proofs.held.Reads as held-reads
-use Rattle.holdings.proofs.reserve_of.Reads as reserve-of-reads
 use Rattle.sound.proofs.entries_valid.Reads as entries-valid-reads
-use Rattle.sound.proofs.holders_fit.Reads as holders-fit-reads
-use Rattle.sound.proofs.numbers_apart.Reads as numbers-apart-reads
+use Rattle.sound.proofs.few_together.Reads as few-together-reads
+use Rattle.sound.proofs.many_together.Reads as many-together-reads
 
 entries-valid-requires : tie.Need-entries-valid-requires
 entries-valid-requires c κs = search needs
@@ -26,61 +17,17 @@ entries-valid-requires c κs = search needs
 returns : tie.Need-returns
 returns c = rw (holdings-is, sym (c .before .entries-valid .ensures) ∙ not-true _ (c .if1 .taken))
 
-numbers-apart-requires : tie.Need-numbers-apart-requires
-numbers-apart-requires c κs = search needs
+few-together-requires : tie.Need-few-together-requires
+few-together-requires c κs = search needs
 
 returns-2 : tie.Need-returns-2
-returns-2 c =
-    rw (
-      holdings-is,
-      sym (c .before .before .before .entries-valid .ensures) ∙ not-false _ (c .before .before .if1 .left),
-      sym (c .before .numbers-apart .ensures) ∙ not-true _ (c .if2 .taken),
-    )
+returns-2 c = rw (holdings-is, sym (c .before .before .before .entries-valid .ensures) ∙ not-false _ (c .before .before .if1 .left)) (c .few-together .ensures)
 
-holders-fit-requires : tie.Need-holders-fit-requires
-holders-fit-requires c κs = search needs
+many-together-requires : tie.Need-many-together-requires
+many-together-requires c κs = search needs
 
 returns-3 : tie.Need-returns-3
-returns-3 c =
-    rw (
-      holdings-is,
-      sym (c .before .before .before .before .before .entries-valid .ensures) ∙ not-false _ (c .before .before .before .before .if1 .left),
-      sym (c .before .before .before .numbers-apart .ensures) ∙ not-false _ (c .before .before .if2 .left),
-      sym (c .before .holders-fit .ensures) ∙ not-true _ (c .if3 .taken),
-    )
-
-reserve-of-requires : tie.Need-reserve-of-requires
-reserve-of-requires c κs = search needs
-
-returns-4 : tie.Need-returns-4
-returns-4 c =
-    let a = c .before .before .before .before .before .before .before .before .before .args in
-    let r : reserve (linesTo (a .t .now) (a .m)) (count (heldTo (a .t .now) (a .n))) ≡ 0 = sym (c .before .reserve-of .ensures .1) ∙ c .if4 .taken in
-    rw (
-      holdings-is,
-      sym (c .before .before .before .before .before .before .before .entries-valid .ensures) ∙ not-false _ (c .before .before .before .before .before .before .if1 .left),
-      sym (c .before .before .before .before .before .numbers-apart .ensures) ∙ not-false _ (c .before .before .before .before .if2 .left),
-      sym (c .before .before .before .holders-fit .ensures) ∙ not-false _ (c .before .before .if3 .left),
-      r,
-    )
-    (sym (le-leb (0 + count (heldTo (a .t .now) (a .n)) any) (a .n) (omega (arith, count-most (a .t .now) any (a .n)))))
-
-held-requires : tie.Need-held-requires
-held-requires c κs = search needs
-
-add-result : tie.Need-add-result
-add-result c = search needs
-
-returns-5 : tie.Need-returns-5
-returns-5 c =
-    rw (
-      holdings-is,
-      sym (c .before .before .before .before .before .before .before .before .entries-valid .ensures) ∙ not-false _ (c .before .before .before .before .before .before .before .if1 .left),
-      sym (c .before .before .before .before .before .before .numbers-apart .ensures) ∙ not-false _ (c .before .before .before .before .before .if2 .left),
-      sym (c .before .before .before .before .holders-fit .ensures) ∙ not-false _ (c .before .before .before .if3 .left),
-      c .before .before .reserve-of .ensures .1,
-      c .held .ensures .1,
-    )
+returns-3 c = rw (holdings-is, sym (c .before .before .before .entries-valid .ensures) ∙ not-false _ (c .before .before .if1 .left)) (c .many-together .ensures)
 
 pub holdings-sound-spec : {M : Type 1} → statement M
 holdings-sound-spec =
@@ -88,12 +35,7 @@ holdings-sound-spec =
     (tie.spec
     entries-valid-requires
     returns
-    numbers-apart-requires
+    few-together-requires
     returns-2
-    holders-fit-requires
-    returns-3
-    reserve-of-requires
-    returns-4
-    held-requires
-    add-result
-    returns-5)
+    many-together-requires
+    returns-3)

@@ -1,16 +1,19 @@
--- `sound::rules_sound` meets its contract: one rule after the other; the line rules hold where the entries are judged. Assumes nothing.
+-- `sound::rules_sound` meets its contract: one rule after the other; the roster's rules hold where the entries are judged. Assumes nothing.
 use mathlib.Core.Path.{sym, _∙_}
 use native.Mathlib.Omega.{arith}
+use borrow.Author.Tests.{not-true, not-false, lt-ltb, le-ltb, le-leb, lt-leb}
+use Rattle.model.specs.Lists.{every, noTwo}
+use Rattle.model.specs.Sound.{validLine, sameAddress, soundRoster}
+use Rattle.model.proofs.ListLaws.{and-left, and-right}
+use Rattle.layout.specs.Shape.{linesTo}
 use borrow.Author.Needs.{needs}
-use borrow.Author.Tests.{not-true, not-false, lt-ltb, le-ltb}
-use Rattle.model.specs.Sound.{soundRoster}
-use Rattle.model.proofs.ListLaws.{and-left}
 use Rattle.sound.proofs.rules_sound.Statement.{statement}
 use Rattle.sound.proofs.rules_sound.Tie as tie
 use Rattle.sound.proofs.rules_sound.Reads as reads
 use Rattle.sound.proofs.rules_sound.Lts as lts
 use Rattle.octets.proofs.get32.Reads as get32-reads
-use Rattle.roster.proofs.lines_sound.Reads as lines-sound-reads
+use Rattle.roster.proofs.lines_good.Reads as lines-good-reads
+use Rattle.roster.proofs.share_sum.Reads as share-sum-reads
 use Rattle.sound.proofs.holdings_sound.Reads as holdings-sound-reads
 
 get32-requires : tie.Need-get32-requires
@@ -19,20 +22,46 @@ get32-requires c κs = search needs
 returns : tie.Need-returns
 returns c = rw (← c .before .get32 .ensures, le-ltb _ _ (c .if1 .taken))
 
-lines-sound-requires : tie.Need-lines-sound-requires
-lines-sound-requires c κs = search needs
+lines-good-requires : tie.Need-lines-good-requires
+lines-good-requires c κs = search needs
 
 returns-2 : tie.Need-returns-2
-returns-2 c = rw (← c .before .before .before .get32 .ensures, lt-ltb _ _ (c .before .before .if1 .left), sym (c .before .lines-sound .ensures) ∙ not-true _ (c .if2 .taken))
-
-holdings-sound-requires : tie.Need-holdings-sound-requires
 unfolding soundRoster
-holdings-sound-requires c κs =
-    let e = sym (c .before .lines-sound .ensures) ∙ not-false _ (c .if2 .left) in
-    (omega arith, omega arith, omega arith, and-left _ _ (and-left _ _ e))
+returns-2 c = rw (← c .before .before .before .get32 .ensures, lt-ltb _ _ (c .before .before .if1 .left), sym (c .before .lines-good .ensures) ∙ not-true _ (c .if2 .taken))
+
+share-sum-requires : tie.Need-share-sum-requires
+share-sum-requires c κs = search needs
 
 returns-3 : tie.Need-returns-3
-returns-3 c = rw (← c .before .before .before .before .get32 .ensures, lt-ltb _ _ (c .before .before .before .if1 .left), sym (c .before .before .lines-sound .ensures) ∙ not-false _ (c .before .if2 .left)) (c .holdings-sound .ensures)
+unfolding soundRoster
+returns-3 c =
+    rw (
+      ← c .before .before .before .before .before .get32 .ensures,
+      lt-ltb _ _ (c .before .before .before .before .if1 .left),
+      sym (c .before .before .before .lines-good .ensures) ∙ not-false _ (c .before .before .if2 .left),
+      ← c .before .share-sum .ensures,
+      lt-leb _ _ (c .if3 .taken),
+    )
+
+holdings-sound-requires : tie.Need-holdings-sound-requires
+holdings-sound-requires c κs =
+    let e = sym (c .before .before .before .lines-good .ensures) ∙ not-false _ (c .before .before .if2 .left) in
+    let a = c .before .before .before .before .before .before .before .args in
+    let v = every validLine (linesTo (a .t .now) (a .m)) in
+    let d = noTwo sameAddress (linesTo (a .t .now) (a .m)) in
+    (omega arith, omega arith, omega arith, omega arith, c .before .share-sum .ensures, and-left v d e, and-right v d e)
+
+returns-4 : tie.Need-returns-4
+unfolding soundRoster
+returns-4 c =
+    rw (
+      ← c .before .before .before .before .before .before .get32 .ensures,
+      lt-ltb _ _ (c .before .before .before .before .before .if1 .left),
+      sym (c .before .before .before .before .lines-good .ensures) ∙ not-false _ (c .before .before .before .if2 .left),
+      ← c .before .before .share-sum .ensures,
+      le-leb _ _ (c .before .if3 .left),
+    )
+    (c .holdings-sound .ensures)
 
 pub rules-sound-spec : {M : Type 1} → statement M
 rules-sound-spec =
@@ -40,7 +69,9 @@ rules-sound-spec =
     (tie.spec
     get32-requires
     returns
-    lines-sound-requires
+    lines-good-requires
     returns-2
+    share-sum-requires
+    returns-3
     holdings-sound-requires
-    returns-3)
+    returns-4)
