@@ -100,11 +100,11 @@ fn entry_asks(t: &[u8], a: usize, s: Sender, d: &[u8], q: Question) -> bool
     if octets::get16(t, a + 37) != q.qclass {
         return false;
     }
-    let len = t[a + 39] as usize;
+    let len = t[a + 39] as u16;
     if len != q.len {
         return false;
     }
-    names::same_name(t, a + 40, d, q.start, len)
+    names::same_name(t, a + 40, d, q.start as usize, len as usize)
 }
 
 // Slot i has an entry of this sender and this question: a setup finds it.

@@ -1,10 +1,10 @@
 -- Laws of the code of this crate: bytes swapped, numbers read and written lowest byte first, zeros and equal bytes step by step. Assumes nothing.
-use Prim.Native.Nat.{ℕ, zero, suc, _+_, _*_, _/_, _%_, _^_, _≤_, _<_}
+use Prim.Native.Nat.{ℕ, zero, suc, _+_, _-_, _*_, _/_, _%_, _^_, _≤_, _<_}
 use native.Mathlib.Nat.{add-zero, pow-suc, mul-le-mul-right}
 use native.Mathlib.Numerals.{add-one}
 use native.Mathlib.Omega.{arith}
 use mathlib.Core.Path.{_≡_, refl, sym, ap, _∙_}
-use mathlib.Core.Bool.{Bool, true, false, _&&_, and-true}
+use mathlib.Core.Bool.{Bool, true, false, _&&_, and-true, and-false}
 use mathlib.Core.Logic.{⊎-elim}
 use mathlib.Core.List.{List, [], _∷_, _++_}
 use lib.ListN.{length, getD, set, replicate, length-set, length-replicate, replicate-append-replicate}
@@ -185,6 +185,16 @@ module _ (s : List ℕ) where
   pub zero-one : (at : ℕ) → at < length s → eqb (getD s at 0) 0 ≡ zeroBytes s at 1
   unfolding same part
   zero-one at h = rw (drop-cons s at 0 h) (eqb-sym (getD s at 0) 0 ∙ sym (and-true (eqb 0 (getD s at 0))))
+
+  -- a byte more, and one that is not zero
+  pub zero-next : (at i : ℕ) → at + i < length s → eqb (getD s (at + i) 0) 0 ≡ true → zeroBytes s at i ≡ true → zeroBytes s at (i + 1) ≡ true
+  zero-next at i h e z = sym (zero-both at (i + 1) i 1 refl (omega arith)) ∙ (rw (z, ← zero-one (at + i) h, e))
+
+  pub zero-no : (at n i : ℕ) → i < n → at + n ≤ length s → eqb (getD s (at + i) 0) 0 ≡ false → zeroBytes s at n ≡ false
+  zero-no at n i l h e =
+      let o : zeroBytes s (at + i) 1 ≡ false = sym (zero-one (at + i) (omega arith)) ∙ e in
+      let r : zeroBytes s (at + i) (n - i) ≡ false = sym (zero-both (at + i) (n - i) 1 (n - i - 1) (omega arith) (omega arith)) ∙ (rw o) in
+      sym (zero-both at n i (n - i) (omega arith) h) ∙ (rw (r, and-false))
 
   -- k bytes are zeros exactly if their number is zero
   pub zero-number : (at k : ℕ) → at + k ≤ length s → zeroBytes s at k ≡ eqb (bigEndian s at k) 0

@@ -139,21 +139,22 @@ pub fn put64(s: &mut [u8], at: usize, x: u64)
     s[at + 7] = (y7 % 256) as u8;
 }
 
-// The n bytes from index at are zeros: their `or` is. The loop has one way out, so that it compiles to vectors.
+// The n bytes from index at are zeros, looked at one by one: for fewer than a block.
 fn zero_bytes(s: &[u8], at: usize, n: usize) -> bool
     requires { ⌜ at + n ≤ length (now s) ⌝ }
     ensures { λ r. ⌜ r ≡ same (replicate n 0) (part at n (now (s .entry))) ⌝ }
 {
-    let mut x: u8 = 0;
     let mut i: usize = 0;
     while i < n {
-        x = x | s[at + i];
+        if s[at + i] != 0 {
+            return false;
+        }
         i += 1;
     }
-    x == 0
+    true
 }
 
-// The n bytes from index a are zeros and the n from index b: two `or`s in one loop, twice the vectors a turn.
+// The n bytes from index a are zeros and the n from index b: their `or`s are. The loop has one way out, so that it compiles to vectors, twice as many a turn for the two.
 fn zero_both(s: &[u8], a: usize, b: usize, n: usize) -> bool
     requires { ⌜ (a + n ≤ length (now s)) × (b + n ≤ length (now s)) ⌝ }
     ensures { λ r. ⌜ r ≡ (same (replicate n 0) (part a n (now (s .entry))) && same (replicate n 0) (part b n (now (s .entry)))) ⌝ }

@@ -136,7 +136,7 @@ fn grant(
         qclass: q.qclass,
         len: q.len as u8,
     };
-    table::put_entry(t, j, e, d, q.start);
+    table::put_entry(t, j, e, d, q.start as usize);
     served(o, Outcome::Challenge(LlqNumber(number), lease))
 }
 

@@ -13,8 +13,12 @@ use Rattle.model.proofs.ListLaws.{test, never, and-both, every-nil, every-next,
 use Rattle.model.proofs.NameLaws.{question-within}
 use Rattle.model.proofs.QueryLaws.{good-at}
 use Rattle.wire.specs.Records.{questionOf, padded, recordAt}
+use Rattle.wire.specs.Read.{readQuestion}
+use Rattle.wire.specs.declared.Cursor.{Cursor}
 use Rattle.wire.specs.declared.Question.{Question}
+use Rattle.wire.specs.declared.QuestionRead.the-variants.{Found}
 use Rattle.wire.proofs.Pad.{pad-none, pad-more, pad-at}
+use Rattle.wire.proofs.Reading.{question-is}
 use Rattle.query.specs.Parts.{blankQuestion, recordOf, firstQuestions, QuestionsRead}
 
 module _ (d : List ℕ) where
@@ -42,6 +46,16 @@ module _ (d : List ℕ) where
   array-next i h =
       pad-more 8 blankQuestion (upTo i (recordOf d)) (recordOf d i) i (length-upTo i (recordOf d)) h
       ∙ ap (padded 8 blankQuestion) (sym (upTo-next i (recordOf d)))
+
+  -- a question that is found starts in the datagram, and its name is short: both fit 16 bits
+  pub found-fits : (at : ℕ) {start len qtype qclass : ℕ} {next : Cursor} → length d ≤ 1472 → readQuestion d at ≡ Found start len qtype qclass next
+      → (start ≤ 1472) × (len ≤ 255)
+  found-fits at l e =
+      let q = question-is d at e in
+      let w = question-within d at (q .0) in
+      let x = ap (λ (q : Question). q .start) (q .1) in
+      let y = ap (λ (q : Question). q .len) (q .1) in
+      (omega arith, omega arith)
 
   -- what the loop knows at a place, i questions on
   pub record Passed (i at : ℕ) (all : List Question) : Type 0 where

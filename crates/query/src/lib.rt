@@ -2,6 +2,7 @@
 ghost use mathlib.Core.Path.{_≡_};
 ghost use Prim.Native.Nat.{_+_, _≤_};
 ghost use lib.ListN.{length};
+ghost use Rattle.model.specs.Numbers.{bigEndian};
 ghost use Rattle.query.specs.Parts.{headerRecord, goodFields, blankQuestion, blankOption, QuestionsRead, OptionsRead, goodStart};
 ghost use Rattle.query.specs.Whole.{refusedWith, Reads};
 use wire::Cursor;
@@ -96,6 +97,14 @@ pub fn good_header(h: Header) -> bool
     h.arcount == 1
 }
 
+// QDCOUNT where it is at most 8: its second byte. A number of 16 bits that is known to be 1 to 8 has the compiler write the reading of a question out eight times, and the array with it.
+fn question_count(s: &[u8]) -> usize
+    requires { ⌜ (12 ≤ length (now s)) × (bigEndian (now s) 4 2 ≤ 8) ⌝ }
+    ensures { λ r. ⌜ r ≡ bigEndian (now (s .entry)) 4 2 ⌝ }
+{
+    s[5] as usize
+}
+
 pub fn blank_question() -> Question
     ensures { λ r. ⌜ r ≡ blankQuestion ⌝ }
 {
@@ -119,9 +128,9 @@ pub fn blank_option() -> LlqOption
     }
 }
 
-// Refusal 5: count questions from the header's end.
+// Refusal 5: count questions from the header's end, of a datagram short enough that its places fit 16 bits.
 pub fn read_questions(s: &[u8], count: usize) -> Questions
-    requires { ⌜ count ≤ 8 ⌝ }
+    requires { ⌜ (count ≤ 8) × (length (now s) ≤ 1472) ⌝ }
     ensures { λ r. ⌜ QuestionsRead (now (s .entry)) count r ⌝ }
 {
     let none = blank_question();
@@ -137,6 +146,8 @@ pub fn read_questions(s: &[u8], count: usize) -> Questions
                 qclass,
                 next,
             } => {
+                let start = start as u16;
+                let len = len as u16;
                 all[i] = Question {
                     start,
                     len,
@@ -272,7 +283,7 @@ pub fn parse(d: &[u8]) -> Parsed
     if !good_header(h) {
         return refuse(4);
     }
-    let count = h.qdcount as usize;
+    let count = question_count(d);
     let q = read_questions(d, count);
     if !q.good {
         return refuse(5);

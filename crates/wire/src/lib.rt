@@ -12,21 +12,21 @@ pub struct MessageNumber(pub u16);
 
 pub struct LlqNumber(pub u64);
 
-// A question: where its name starts in the datagram, how many bytes the name takes, its type and class.
+// A question: where its name starts in the datagram, how many bytes the name takes, its type and class. Places in a datagram fit 16 bits: eight questions are then 64 bytes without gaps.
 pub struct Question {
-    pub start: usize,
-    pub len: usize,
+    pub start: u16,
+    pub len: u16,
     pub qtype: u16,
     pub qclass: u16,
 }
 
-// An LLQ option's 18 bytes.
+// An LLQ option's 18 bytes. The widest fields come first: no gaps between them, so that eight options are cleared and copied as one block.
 pub struct LlqOption {
+    pub number: LlqNumber,
+    pub lease: u32,
     pub version: u16,
     pub opcode: u16,
     pub error: u16,
-    pub number: LlqNumber,
-    pub lease: u32,
 }
 
 // A place in a message. Each reader takes it and hands it back moved on.

@@ -104,25 +104,31 @@ returns-5 c =
 add-same-name : tie.Need-add-same-name
 add-same-name c = search needs
 
+cast-same-name : tie.Need-cast-same-name
+cast-same-name c = search needs
+
+cast-same-name-2 : tie.Need-cast-same-name-2
+cast-same-name-2 c = search needs
+
 same-name-requires : tie.Need-same-name-requires
 same-name-requires c κs =
-    (omega (arith, c .before .before .before .before .before .before .before .before .before .before .before .before .before .before .before .shared-slice-known .given (c .before .before .before .before .before .before .before .before .before .before .before .before .before .before .before .before .args .a + 39)), omega arith)
+    (omega (arith, c .before .before .before .before .before .before .before .before .before .before .before .before .before .before .before .before .shared-slice-known .given (c .before .before .before .before .before .before .before .before .before .before .before .before .before .before .before .before .before .args .a + 39)), omega arith)
 
 returns-6 : tie.Need-returns-6
 unfolding holdingAt readEntry
 returns-6 c =
-    let a = c .before .before .before .before .before .before .before .before .before .before .before .before .before .before .before .before .before .args in
-    let n = c .before .if5 .left in
+    let a = c .before .before .before .before .before .before .before .before .before .before .before .before .before .before .before .before .before .before .args in
+    let n = c .before .before .if5 .left in
     let w : map fold (part (a .q .start) (getD (a .t .now) (a .a + 39) 0) (a .d .now)) ≡ map fold (part (a .q .start) (a .q .len) (a .d .now)) =
     ap (λ (k : ℕ). map fold (part (a .q .start) k (a .d .now))) n in
     rw (
-      sym (c .before .before .before .before .before .before .before .before .before .before .before .before .before .before .has-address .ensures) ∙ not-false _ (c .before .before .before .before .before .before .before .before .before .before .before .before .before .if1 .left),
-      ← c .before .before .before .before .before .before .before .before .before .before .before .before .get16 .ensures,
-      eq-eqb _ _ (c .before .before .before .before .before .before .before .before .before .before .if2 .left),
-      ← c .before .before .before .before .before .before .before .before .before .get162 .ensures,
-      eq-eqb _ _ (c .before .before .before .before .before .before .before .if3 .left),
-      ← c .before .before .before .before .before .before .get163 .ensures,
-      eq-eqb _ _ (c .before .before .before .before .if4 .left),
+      sym (c .before .before .before .before .before .before .before .before .before .before .before .before .before .before .before .has-address .ensures) ∙ not-false _ (c .before .before .before .before .before .before .before .before .before .before .before .before .before .before .if1 .left),
+      ← c .before .before .before .before .before .before .before .before .before .before .before .before .before .get16 .ensures,
+      eq-eqb _ _ (c .before .before .before .before .before .before .before .before .before .before .before .if2 .left),
+      ← c .before .before .before .before .before .before .before .before .before .before .get162 .ensures,
+      eq-eqb _ _ (c .before .before .before .before .before .before .before .before .if3 .left),
+      ← c .before .before .before .before .before .before .before .get163 .ensures,
+      eq-eqb _ _ (c .before .before .before .before .before .if4 .left),
     )
     (c .same-name .ensures ∙ ap (same (part (a .a + 40) (getD (a .t .now) (a .a + 39) 0) (a .t .now))) w)
 
@@ -147,5 +153,7 @@ entry-asks-spec =
     cast-len
     returns-5
     add-same-name
+    cast-same-name
+    cast-same-name-2
     same-name-requires
     returns-6)

@@ -48,6 +48,9 @@ get32-requires c κs = search needs
 cast-t24 : tie.Need-cast-t24
 cast-t24 c = search needs
 
+cast-put-entry : tie.Need-cast-put-entry
+cast-put-entry c = search needs
+
 put-entry-requires : tie.Need-put-entry-requires
 put-entry-requires c κs = search needs
 
@@ -59,21 +62,21 @@ same-length-2 c = search needs
 
 returns-2 : tie.Need-returns-2
 returns-2 c =
-    let a = c .before .before .before .before .before .before .before .before .before .before .before .before .before .before .before .before .args in
-    let z = c .before .before .before .before .before .before .before .before .before .before .before .before .before .before .before .before in
+    let a = c .before .before .before .before .before .before .before .before .before .before .before .before .before .before .before .before .before .args in
+    let z = c .before .before .before .before .before .before .before .before .before .before .before .before .before .before .before .before .before in
     let w = part (a .q .start) (a .q .len) (a .d .now) in
     let n : length (map fold w) ≡ a .q .len = folded-length (a .d .now) (a .q .start) (a .q .len) (z .pre .2) in
-    law.grant-written (a .t .now) (λ j. omega (arith, c .before .before .before .before .before .before .before .before .before .before .before .before .before .before .before .slice-known .given j)) (c .before .before .before .before .before .before .before .before .before .before .before .before .before .before .before .before .pre .0) (a .n) (c .before .before .before .before .before .before .before .before .before .before .before .before .before .before .before .before .pre .1) (a .s) (a .r) (questionOf (a .d .now) (a .q)) (a .o) (c .before .before .before .before .before .before .before .before .before .before .before .before .fresh-number .ensures) (c .before .before .before .before .before .before .before .before .before .before .before .granted-lease .ensures) (c .before .before .before .before .before .before .before .before .before .find-free .ensures) _ _ (c .before .before .before .before .before .before .get32 .ensures) (c .before .before .before .before .before .before .before .before .if1 .left)
+    law.grant-written (a .t .now) (λ j. omega (arith, c .before .before .before .before .before .before .before .before .before .before .before .before .before .before .before .before .slice-known .given j)) (c .before .before .before .before .before .before .before .before .before .before .before .before .before .before .before .before .before .pre .0) (a .n) (c .before .before .before .before .before .before .before .before .before .before .before .before .before .before .before .before .before .pre .1) (a .s) (a .r) (questionOf (a .d .now) (a .q)) (a .o) (c .before .before .before .before .before .before .before .before .before .before .before .before .before .fresh-number .ensures) (c .before .before .before .before .before .before .before .before .before .before .before .before .granted-lease .ensures) (c .before .before .before .before .before .before .before .before .before .before .find-free .ensures) _ _ (c .before .before .before .before .before .before .before .get32 .ensures) (c .before .before .before .before .before .before .before .before .before .if1 .left)
     (record {
       address = law.address-fits (a .s .high) (a .s .low) (omega (arith, z)) (omega (arith, z));
       port = omega (arith, z);
-      number = omega (arith, c .before .before .before .before .before .before .before .before .before .before .before .before);
-      lease = omega (arith, c .before .before .before .before .before .before .before .before .before .before .before);
-      stamp = omega (arith, c .before .before .before .before .before .before);
+      number = omega (arith, c .before .before .before .before .before .before .before .before .before .before .before .before .before);
+      lease = omega (arith, c .before .before .before .before .before .before .before .before .before .before .before .before);
+      stamp = omega (arith, c .before .before .before .before .before .before .before);
       qtype = omega (arith, z);
       qclass = omega (arith, z);
       size = omega (arith, n, z .pre .3);
-      bytes = bytes-fold w (bytes-part (a .q .start) (a .q .len) (a .d .now) (λ j. omega (arith, c .before .before .before .before .before .before .before .before .before .before .before .before .before .before .shared-slice-known .given j)));
+      bytes = bytes-fold w (bytes-part (a .q .start) (a .q .len) (a .d .now) (λ j. omega (arith, c .before .before .before .before .before .before .before .before .before .before .before .before .before .before .before .shared-slice-known .given j)));
     })
     _ (c .before .before .before .put-entry .ensures) _ (c .served2 .ensures)
 
@@ -89,6 +92,7 @@ grant-spec =
     returns
     get32-requires
     cast-t24
+    cast-put-entry
     put-entry-requires
     served-requires-2
     same-length-2

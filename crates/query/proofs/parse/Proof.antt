@@ -3,13 +3,22 @@ use borrow.Author.Needs.{needs}
 use Rattle.query.proofs.parse.Statement.{statement}
 use Rattle.query.proofs.parse.Tie as tie
 use native.Mathlib.Omega.{arith}
-use mathlib.Core.Path.{_≡_, sym, _∙_}
+use Prim.Native.Nat.{ℕ}
+use mathlib.Core.Path.{_≡_, sym, ap, _∙_}
+use mathlib.Core.List.{List}
 use mathlib.Core.Bool.{_&&_}
 use mathlib.Core.Logic.{⊎-elim}
 use lib.Dec.{eqb}
 use borrow.Author.Tests.{not-true, not-false, eq-eqb, ne-eqb}
 use denote.Ref.{now}
+use Rattle.model.specs.Numbers.{bigEndian}
+use Rattle.query.specs.declared.Header.{Header}
+use Rattle.query.specs.Parts.{headerRecord}
 use Rattle.query.proofs.ParseLaws as law
+
+-- the count that is read beside the header is the header's
+counted : (d : List ℕ) {h : Header} (n : ℕ) → n ≡ bigEndian d 4 2 → h ≡ headerRecord d → n ≡ h .qdcount
+counted d n e f = e ∙ sym (ap (λ (x : Header). x .qdcount) f)
 
 refuse-requires : tie.Need-refuse-requires
 refuse-requires c κs = search needs
@@ -39,14 +48,19 @@ returns-3 c =
     let d = now (g .before .before .before .before .before .args .d) in
     rw (c .refuse3 .ensures) (law.bad-header d (g .before .before .before .if1 .left) (g .before .before .if2 .left) (h .result) (h .ensures) (sym (g .good-header .ensures) ∙ not-true _ (c .before .if3 .taken)))
 
-cast-count : tie.Need-cast-count
-cast-count c = search needs
+question-count-requires : tie.Need-question-count-requires
+question-count-requires c κs =
+    let g = c .before in
+    let h = g .before .read-header in
+    let f = law.asked-few (now (g .before .before .before .before .before .args .d)) (g .before .before .before .if1 .left) (g .before .before .if2 .left) (h .result) (h .ensures) (sym (g .good-header .ensures) ∙ not-false _ (c .if3 .left)) .1 in
+    (g .before .before .before .if1 .left, rw (ap (λ (x : Header). x .qdcount) (h .ensures)) at f)
 
 read-questions-requires : tie.Need-read-questions-requires
 read-questions-requires c κs =
     let g = c .before .before in
     let h = g .before .read-header in
-    law.asked-few (now (g .before .before .before .before .before .args .d)) (g .before .before .before .if1 .left) (g .before .before .if2 .left) (h .result) (h .ensures) (sym (g .good-header .ensures) ∙ not-false _ (c .before .if3 .left)) .1
+    let f = law.asked-few (now (g .before .before .before .before .before .args .d)) (g .before .before .before .if1 .left) (g .before .before .if2 .left) (h .result) (h .ensures) (sym (g .good-header .ensures) ∙ not-false _ (c .before .if3 .left)) .1 in
+    (rw (counted (now (g .before .before .before .before .before .args .d)) _ (c .question-count .ensures) (h .ensures)) f, g .before .before .if2 .left)
 
 refuse-requires-4 : tie.Need-refuse-requires-4
 refuse-requires-4 c κs = search needs
@@ -58,7 +72,7 @@ returns-4 c =
     let h = g .before .read-header in
     let q = p .read-questions in
     let d = now (g .before .before .before .before .before .args .d) in
-    rw (c .refuse4 .ensures) (law.bad-question d (g .before .before .before .if1 .left) (g .before .before .if2 .left) (h .result) (h .ensures) (sym (g .good-header .ensures) ∙ not-false _ (p .before .before .if3 .left)) (q .result) (q .ensures) (not-true _ (c .before .if4 .taken)))
+    rw (c .refuse4 .ensures) (law.bad-question d (g .before .before .before .if1 .left) (g .before .before .if2 .left) (h .result) (h .ensures) (sym (g .good-header .ensures) ∙ not-false _ (p .before .before .if3 .left)) (q .result) (rw (counted d _ (p .before .question-count .ensures) (h .ensures)) at (q .ensures)) (not-true _ (c .before .if4 .taken)))
 
 opt-starts-requires : tie.Need-opt-starts-requires
 opt-starts-requires c κs = search needs
@@ -73,7 +87,7 @@ returns-5 c =
     let h = g .before .read-header in
     let q = p .read-questions in
     let d = now (g .before .before .before .before .before .args .d) in
-    rw (c .refuse5 .ensures) (law.bad-opt d (g .before .before .before .if1 .left) (g .before .before .if2 .left) (h .result) (h .ensures) (sym (g .good-header .ensures) ∙ not-false _ (p .before .before .if3 .left)) (q .result) (q .ensures) (not-false _ (c .before .before .before .if4 .left)) (sym (c .before .before .opt-starts .ensures) ∙ not-true _ (c .before .if5 .taken)))
+    rw (c .refuse5 .ensures) (law.bad-opt d (g .before .before .before .if1 .left) (g .before .before .if2 .left) (h .result) (h .ensures) (sym (g .good-header .ensures) ∙ not-false _ (p .before .before .if3 .left)) (q .result) (rw (counted d _ (p .before .question-count .ensures) (h .ensures)) at (q .ensures)) (not-false _ (c .before .before .before .if4 .left)) (sym (c .before .before .opt-starts .ensures) ∙ not-true _ (c .before .if5 .taken)))
 
 add-t11 : tie.Need-add-t11
 add-t11 c =
@@ -96,7 +110,7 @@ returns-6 c =
     let q = p .read-questions in
     let o = r .read-options in
     let d = now (g .before .before .before .before .before .args .d) in
-    rw (c .refuse6 .ensures) (law.bad-fill d (g .before .before .before .if1 .left) (g .before .before .if2 .left) (h .result) (h .ensures) (sym (g .good-header .ensures) ∙ not-false _ (p .before .before .if3 .left)) (q .result) (q .ensures) (not-false _ (r .before .before .before .if4 .left)) (sym (r .before .before .opt-starts .ensures) ∙ not-false _ (r .before .if5 .left)) (o .result) (o .ensures) (not-true _ (c .before .if6 .taken)))
+    rw (c .refuse6 .ensures) (law.bad-fill d (g .before .before .before .if1 .left) (g .before .before .if2 .left) (h .result) (h .ensures) (sym (g .good-header .ensures) ∙ not-false _ (p .before .before .if3 .left)) (q .result) (rw (counted d _ (p .before .question-count .ensures) (h .ensures)) at (q .ensures)) (not-false _ (r .before .before .before .if4 .left)) (sym (r .before .before .opt-starts .ensures) ∙ not-false _ (r .before .if5 .left)) (o .result) (o .ensures) (not-true _ (c .before .if6 .taken)))
 
 refuse-requires-7 : tie.Need-refuse-requires-7
 refuse-requires-7 c κs = search needs
@@ -110,7 +124,7 @@ returns-7 c =
     let q = p .read-questions in
     let o = r .read-options in
     let d = now (g .before .before .before .before .before .args .d) in
-    rw (c .refuse7 .ensures) (law.no-llq d (g .before .before .before .if1 .left) (g .before .before .if2 .left) (h .result) (h .ensures) (sym (g .good-header .ensures) ∙ not-false _ (p .before .before .if3 .left)) (q .result) (q .ensures) (not-false _ (r .before .before .before .if4 .left)) (sym (r .before .before .opt-starts .ensures) ∙ not-false _ (r .before .if5 .left)) (o .result) (o .ensures) (not-false _ (c .before .before .before .if6 .left)) (c .before .if7 .taken))
+    rw (c .refuse7 .ensures) (law.no-llq d (g .before .before .before .if1 .left) (g .before .before .if2 .left) (h .result) (h .ensures) (sym (g .good-header .ensures) ∙ not-false _ (p .before .before .if3 .left)) (q .result) (rw (counted d _ (p .before .question-count .ensures) (h .ensures)) at (q .ensures)) (not-false _ (r .before .before .before .if4 .left)) (sym (r .before .before .opt-starts .ensures) ∙ not-false _ (r .before .if5 .left)) (o .result) (o .ensures) (not-false _ (c .before .before .before .if6 .left)) (c .before .if7 .taken))
 
 returns-8 : tie.Need-returns-8
 returns-8 c =
@@ -123,12 +137,12 @@ returns-8 c =
     let o = r .read-options in
     let d = now (g .before .before .before .before .before .args .d) in
     let k = o .result .count in
-    let m : b .if8 .matched ≡ eqb k (h .result .qdcount) && o .result .sized =
-    ⊎-elim
-    (λ w. w .1 ∙ sym (rw (ne-eqb k (h .result .qdcount) (w .0 .taken))))
-    (λ w. w .1 ∙ sym (rw (eq-eqb k (h .result .qdcount) (w .0 .left))))
-    (b .if8 .came) in
-    law.taken d (g .before .before .before .if1 .left) (g .before .before .if2 .left) (h .result) (h .ensures) (sym (g .good-header .ensures) ∙ not-false _ (p .before .before .if3 .left)) (q .result) (q .ensures) (not-false _ (r .before .before .before .if4 .left)) (sym (r .before .before .opt-starts .ensures) ∙ not-false _ (r .before .if5 .left)) (o .result) (o .ensures) (not-false _ (b .before .before .before .before .if6 .left)) (b .if8 .matched) (b .before .before .if7 .left) m
+    let n = p .before .question-count .result in
+    let e = counted d n (p .before .question-count .ensures) (h .ensures) in
+    let m : b .if8 .matched ≡ eqb k n && o .result .sized =
+    ⊎-elim (λ w. w .1 ∙ sym (rw (ne-eqb k n (w .0 .taken)))) (λ w. w .1 ∙ sym (rw (eq-eqb k n (w .0 .left)))) (b .if8 .came) in
+    rw e
+    (law.taken d (g .before .before .before .if1 .left) (g .before .before .if2 .left) (h .result) (h .ensures) (sym (g .good-header .ensures) ∙ not-false _ (p .before .before .if3 .left)) (q .result) (rw (counted d _ (p .before .question-count .ensures) (h .ensures)) at (q .ensures)) (not-false _ (r .before .before .before .if4 .left)) (sym (r .before .before .opt-starts .ensures) ∙ not-false _ (r .before .if5 .left)) (o .result) (o .ensures) (not-false _ (b .before .before .before .before .if6 .left)) (b .if8 .matched) (b .before .before .if7 .left) (rw e at m))
 
 pub parse-spec : {M : Type 1} → statement M
 parse-spec =
@@ -142,7 +156,7 @@ parse-spec =
     good-header-requires
     refuse-requires-3
     returns-3
-    cast-count
+    question-count-requires
     read-questions-requires
     refuse-requires-4
     returns-4

@@ -30,6 +30,18 @@ question-requires c κs = search needs
 enum-known-start : tie.Need-enum-known-start Inv-loop μ-loop
 enum-known-start c = search needs
 
+cast-start : tie.Need-cast-start Inv-loop μ-loop
+cast-start c =
+    let l = c .before .before .before .before .before in
+    let p = law.found-fits (now (l .before .before .before .args .s)) (l .loop .c .at) (l .before .before .before .pre .1) (sym (c .before .before .before .question .ensures) ∙ c .before .start .given .1) in
+    omega (arith, p)
+
+cast-len : tie.Need-cast-len Inv-loop μ-loop
+cast-len c =
+    let l = c .before .before .before .before .before in
+    let p = law.found-fits (now (l .before .before .before .args .s)) (l .loop .c .at) (l .before .before .before .pre .1) (sym (c .before .before .before .question .ensures) ∙ c .before .start .given .1) in
+    omega (arith, p)
+
 mul-all : tie.Need-mul-all Inv-loop μ-loop
 mul-all c = search needs
 
@@ -75,6 +87,8 @@ read-questions-spec =
     loop-holds
     question-requires
     enum-known-start
+    cast-start
+    cast-len
     mul-all
     array-set-from-all
     add-i
