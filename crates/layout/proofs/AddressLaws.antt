@@ -1,6 +1,6 @@
 -- An address as two halves of eight bytes. Assumes nothing.
-use Prim.Native.Nat.{ℕ, zero, suc, _+_, _*_, _/_, _%_, _^_, _<_}
-use native.Mathlib.Nat.{mul-assoc, pow-suc, add-zero, add-suc, mul-add-div-right, div-eq-of-lt, mul-add-mod-self-right, mod-eq-of-lt}
+use Prim.Native.Nat.{ℕ, _+_, _*_, _/_, _%_, _^_, _<_}
+use native.Mathlib.Nat.{add-zero, mul-add-div-right, div-eq-of-lt, mul-add-mod-self-right, mod-eq-of-lt}
 use native.Mathlib.Omega.{arith}
 use mathlib.Core.Path.{_≡_, sym, ap, _∙_}
 use mathlib.Core.Bool.{false, _&&_, and-true, and-false}
@@ -9,16 +9,8 @@ use mathlib.Core.Logic.{_≢_}
 use lib.Dec.{eqb}
 use borrow.Author.Tests.{eqb-true, eq-eqb, ne-eqb}
 use Rattle.model.specs.Numbers.{bigEndian}
+use Rattle.model.proofs.NumberLaws.{big-add}
 use Rattle.model.proofs.ListLaws.{iff, and-left, and-right, and-both}
-
--- a number of j + k bytes is its first j and its last k
-pub big-add : (s : List ℕ) (at j k : ℕ) → bigEndian s at (j + k) ≡ bigEndian s at j * 256 ^ k + bigEndian s (at + j) k
-unfolding bigEndian
-big-add s at j zero = rw (add-zero) (omega arith)
-big-add s at j (suc k) =
-    let e : at + j + k ≡ at + (j + k) = omega arith in
-    let p : bigEndian s at j * (256 ^ k * 256) ≡ bigEndian s at j * 256 ^ k * 256 = sym (mul-assoc (bigEndian s at j) (256 ^ k) 256) in
-    rw (add-suc, pow-suc, p, e, big-add s at j k) (omega arith)
 
 pub big-halves : (s : List ℕ) (at : ℕ) → bigEndian s at 16 ≡ bigEndian s at 8 * 2 ^ 64 + bigEndian s (at + 8) 8
 big-halves s at = big-add s at 8 8

@@ -1,12 +1,12 @@
 -- The laws of Numbers: what is written is read, and parts and splices of a list. Assumes nothing.
 use Prim.Native.Nat.{ℕ, zero, suc, _+_, _-_, _*_, _/_, _%_, _^_, _≤_, _<_}
-use native.Mathlib.Nat.{zero-add, add-assoc, pow-suc, add-zero, add-suc}
+use native.Mathlib.Nat.{zero-add, add-assoc, mul-assoc, pow-suc, add-zero, add-suc}
 use native.Mathlib.Omega.{arith}
 use lib.Dec.{lit<}
 use mathlib.Core.Path.{_≡_, refl, sym, ap, _∙_}
 use mathlib.Core.List.{List, [], _∷_, _++_, append-assoc, append-nil}
-use lib.ListN.{length, take, drop, getD, set, length-append, length-take, length-drop, length-set, take-append-drop, drop-of-length-le, replicate}
-use lib.Seq.{take-set-le, drop-set-lt, drop-cons, take-suc, getD-set-same, getD-drop, getD-take, getD-at, take-at, drop-at, getD-append-add, length-take-le, drop-drop, set-split, set-at, take-length}
+use lib.ListN.{length, take, drop, getD, set, length-append, length-take, length-drop, take-append-drop, drop-of-length-le, replicate}
+use lib.Seq.{drop-cons, take-suc, getD-drop, getD-take, getD-at, take-at, drop-at, getD-append-add, length-take-le, drop-drop, set-split, set-at, take-length}
 use native.Mathlib.Numerals.{add-one}
 use Rattle.model.specs.Numbers.{bigEndian, Bytes, bytesOf, part, splice, encode, total, offset, writes}
 
@@ -27,22 +27,14 @@ pub splice-none : (at : ℕ) (s : List ℕ) → splice at 0 [] s ≡ s
 unfolding splice
 splice-none at s = rw (add-zero, take-append-drop)
 
--- a turn of the writer: the last byte goes to its place, and what is left to write is the rest
-pub put-step : (s : List ℕ) (at k x : ℕ) → at + k < length s
-    → splice at k (bytesOf k (x / 256)) (set s (at + k) (x % 256)) ≡ splice at (suc k) (bytesOf (suc k) x) s
-unfolding splice bytesOf
-put-step s at k x h =
-    let le : at ≤ at + k = omega arith in
-    let l2 : at + k < length (set s (at + k) (x % 256)) = simp length-set (omega arith) in
-    let l3 : at + k < suc (at + k) = omega arith in
-    rw (
-      take-set-le at s (at + k) (x % 256) le,
-      drop-cons (set s (at + k) (x % 256)) (at + k) 0 l2,
-      getD-set-same,
-      drop-set-lt (suc (at + k)) s (at + k) (x % 256) l3,
-      append-assoc,
-      add-suc,
-    )
+-- a number of j + k bytes is its first j and its last k
+pub big-add : (s : List ℕ) (at j k : ℕ) → bigEndian s at (j + k) ≡ bigEndian s at j * 256 ^ k + bigEndian s (at + j) k
+unfolding bigEndian
+big-add s at j zero = rw (add-zero) (omega arith)
+big-add s at j (suc k) =
+    let e : at + j + k ≡ at + (j + k) = omega arith in
+    let p : bigEndian s at j * (256 ^ k * 256) ≡ bigEndian s at j * 256 ^ k * 256 = sym (mul-assoc (bigEndian s at j) (256 ^ k) 256) in
+    rw (add-suc, pow-suc, p, e, big-add s at j k) (omega arith)
 
 -- the round trip
 
@@ -179,10 +171,14 @@ writes-eq (f ∷ fs) at s h =
     writes-eq fs (at + f .0) (splice at (f .0) (bytesOf (f .0) (f .1)) s) (omega arith)
     ∙ splice-splice at (f .0) (total fs) (bytesOf (f .0) (f .1)) (encode fs) s (length-bytes (f .0) (f .1)) (omega arith)
 
--- a store of one byte is a write of one
+-- a store of one element is a write of one, and of one byte
+pub set-one : (s : List ℕ) (at x : ℕ) → at < length s → set s at x ≡ splice at 1 (x ∷ []) s
+unfolding splice
+set-one s at x h = rw add-one (set-split s at x h)
+
 pub set-splice : (s : List ℕ) (at x : ℕ) → at < length s → x < 256 → set s at x ≡ splice at 1 (bytesOf 1 x) s
-unfolding splice bytesOf
-set-splice s at x h l = let e : x % 256 ≡ x = omega arith in rw (e, add-one) (set-split s at x h)
+unfolding bytesOf
+set-splice s at x h l = let e : x % 256 ≡ x = omega arith in rw e (set-one s at x h)
 
 pub big-one : (s : List ℕ) (at : ℕ) → bigEndian s at 1 ≡ getD s at 0
 unfolding bigEndian

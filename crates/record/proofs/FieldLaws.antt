@@ -9,10 +9,10 @@ use lib.Dec.{eqb, lit<}
 use Rattle.model.specs.Lists.{same}
 use Rattle.model.specs.Numbers.{bigEndian, Bytes, part}
 use Rattle.model.specs.Table.{readEntry}
-use Rattle.model.proofs.NumberLaws.{big-lt, big-one}
+use Rattle.model.proofs.NumberLaws.{big-add, big-lt, big-one}
 use Rattle.layout.specs.Shape.{zerosAt, unusedShape}
 use Rattle.layout.specs.Held.{holdingAt}
-use Rattle.layout.proofs.AddressLaws.{big-add, halves-are}
+use Rattle.layout.proofs.AddressLaws.{halves-are}
 use Rattle.octets.proofs.Laws.{zeroBytes, zero-both, zero-number}
 use Rattle.octets.proofs.Cover.{cover}
 use Rattle.record.specs.Asked.{sameAsked}

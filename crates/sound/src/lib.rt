@@ -303,10 +303,10 @@ fn rules_sound(t: &[u8], n: usize, m: usize) -> bool
     if octets::get32(t, layout::PLACE_AT) >= 619315200 {
         return false;
     }
-    if !roster::lines_good(t, 9, m) {
+    if !roster::lines_good(t, layout::LINES_AT, m) {
         return false;
     }
-    let shares = roster::share_sum(t, 9, m);
+    let shares = roster::share_sum(t, layout::LINES_AT, m);
     if shares > n {
         return false;
     }

@@ -6,7 +6,7 @@ use Prim.Native.Nat.{_+_}
 use native.Mathlib.Omega.{arith}
 use mathlib.Core.Path.{_∙_}
 use denote.Ref.{now}
-use Rattle.octets.proofs.Laws.{low-first-is}
+use Rattle.octets.proofs.SwapLaws.{low-first-is}
 
 shared-slice-read-swapped16 : tie.Need-shared-slice-read-swapped16
 shared-slice-read-swapped16 c = search needs

@@ -4,7 +4,7 @@ use Rattle.octets.proofs.put16.Statement.{statement}
 use Rattle.octets.proofs.put16.Tie as tie
 use native.Mathlib.Omega.{arith}
 use lib.ListN.{length-set}
-use Rattle.octets.proofs.Laws.{stores-is}
+use Rattle.octets.proofs.SwapLaws.{stores-is}
 
 swapped16-requires : tie.Need-swapped16-requires
 swapped16-requires c κs = search needs

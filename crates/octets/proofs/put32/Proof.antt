@@ -4,7 +4,7 @@ use Rattle.octets.proofs.put32.Statement.{statement}
 use Rattle.octets.proofs.put32.Tie as tie
 use native.Mathlib.Omega.{arith}
 use lib.ListN.{length-set}
-use Rattle.octets.proofs.Laws.{stores-is}
+use Rattle.octets.proofs.SwapLaws.{stores-is}
 
 swapped32-requires : tie.Need-swapped32-requires
 swapped32-requires c κs = search needs

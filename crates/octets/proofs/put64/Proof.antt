@@ -4,7 +4,7 @@ use Rattle.octets.proofs.put64.Statement.{statement}
 use Rattle.octets.proofs.put64.Tie as tie
 use native.Mathlib.Omega.{arith}
 use lib.ListN.{length-set}
-use Rattle.octets.proofs.Laws.{stores-is}
+use Rattle.octets.proofs.SwapLaws.{stores-is}
 
 swapped64-requires : tie.Need-swapped64-requires
 swapped64-requires c κs = search needs

@@ -2,7 +2,7 @@
 use borrow.Author.Needs.{needs}
 use Rattle.octets.proofs.swapped16.Statement.{statement}
 use Rattle.octets.proofs.swapped16.Tie as tie
-use Rattle.octets.proofs.Laws.{swap-is}
+use Rattle.octets.proofs.SwapLaws.{swap-is}
 
 mul-result : tie.Need-mul-result
 mul-result c = search needs

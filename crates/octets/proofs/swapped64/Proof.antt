@@ -2,7 +2,7 @@
 use borrow.Author.Needs.{needs}
 use Rattle.octets.proofs.swapped64.Statement.{statement}
 use Rattle.octets.proofs.swapped64.Tie as tie
-use Rattle.octets.proofs.Laws.{swap-is}
+use Rattle.octets.proofs.SwapLaws.{swap-is}
 
 mul-b : tie.Need-mul-b
 mul-b c = search needs
