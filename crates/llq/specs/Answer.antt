@@ -5,12 +5,13 @@ use mathlib.Core.Bool.{Bool, cond}
 use mathlib.Core.List.{List, [], _∷_, _++_}
 use lib.ListN.{length, drop, getD}
 use Rattle.model.specs.Lists.{upTo}
-use Rattle.model.specs.Query.{qdcount, questionsEnd, matched, question, llqOption}
+use Rattle.model.specs.Query.{qdcount, questionsEnd, matched, question, llqAt, llqOption}
 use Rattle.model.specs.Table.{Table, tableBytes, readTable}
 use Rattle.model.specs.Serve.{Sender, Outcome, serveOption}
-use Rattle.wire.specs.Records.{questionOf, optionOf}
+use Rattle.wire.specs.Records.{questionOf}
 use Rattle.wire.specs.declared.Question.{Question}
-use Rattle.wire.specs.declared.LlqOption.{LlqOption}
+use Rattle.query.specs.declared.OptionAt.{OptionAt}
+use Rattle.query.specs.Parts.{blankOption}
 use Rattle.llq.specs.declared.Served.{Served}
 use Rattle.model.specs.Reply.{headerBytes, questionBytes, optBytes, replyBytes, replyLength, mismatch}
 
@@ -32,9 +33,11 @@ QuestionsOf d n all =
     (i : ℕ) (e : Question) → i < n
     → (questionOf d (getD all i e) ≡ question d i) × (getD all i e .start + getD all i e .len ≤ length d) × (getD all i e .len ≤ 255)
 
--- the first n of an array are the query's options; an element is read by getD, whatever its default
-abbrev pub OptionsOf : List ℕ → ℕ → List LlqOption → Type 0
-OptionsOf d n all = (i : ℕ) (e : LlqOption) → i < n → optionOf (getD all i e) ≡ llqOption d i
+-- the first n of an array are where the query's options start; an element is read by getD, whatever its default. Behind each place in the array lie 18 bytes.
+abbrev pub OptionsOf : List ℕ → ℕ → List OptionAt → Type 0
+OptionsOf d n all =
+    ((i : ℕ) (e : OptionAt) → i < n → llqAt d (getD all i e .start) ≡ llqOption d i)
+    × ((i : ℕ) → getD all i blankOption .start + 18 ≤ length d)
 
 -- the table after the first i options
 unfoldable pub tableFrom : Sender → ℕ → List ℕ → Table → ℕ → Table

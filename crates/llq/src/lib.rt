@@ -1,5 +1,6 @@
 // Document 01's three calls, for a host in C: making, ticking, serving. Every refusal is decided before the first byte is written.
 use entries::Sender;
+use query::OptionAt;
 use query::Query;
 use wire::LlqNumber;
 use wire::LlqOption;
@@ -135,7 +136,7 @@ fn serve_each(
     n: usize,
     end: usize,
     questions: [Question; 8],
-    options: [LlqOption; 8],
+    options: [OptionAt; 8],
 )
     requires { ⌜ WellFormed (now t) × (n ≤ 8) × QuestionsOf (now d) n questions × OptionsOf (now d) n options × (end + 11 + 22 * n ≤ length (now reply)) ⌝ }
     ensures { λ _. ⌜ Written (now (t .exit)) (tableFrom (senderOf s) r (now (d .entry)) (readTable (now (t .entry))) n) × (now (reply .exit) ≡ splice (end + 11) (22 * n) (flat optionBytes (upTo n (outcomeFrom (senderOf s) r (now (d .entry)) (readTable (now (t .entry)))))) (now (reply .entry))) ⌝ }
@@ -143,7 +144,9 @@ fn serve_each(
     let at = end + 11;
     let mut i: usize = 0;
     while i < n {
-        serve_one(t, reply, at + 22 * i, s, r, d, questions[i], options[i]);
+        let place = options[i];
+        let o = wire::option_of(d, place.start as usize);
+        serve_one(t, reply, at + 22 * i, s, r, d, questions[i], o);
         i += 1;
     }
 }

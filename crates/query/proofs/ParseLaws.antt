@@ -6,23 +6,24 @@ use mathlib.Core.Bool.{Bool, true, false, _&&_}
 use native.Mathlib.Omega.{arith}
 use lib.ListN.{length, getD, take}
 use lib.Seq.{take-all}
-use lib.Dec.{eqb, leb}
-use borrow.Author.Tests.{lt-ltb, le-ltb, leb-true, eq-eqb, ne-eqb, eqb-true}
+use lib.Dec.{eqb, leb, ltb}
+use borrow.Author.Tests.{lt-ltb, le-ltb, ltb-true, ltb-false, leb-true, eq-eqb, ne-eqb, eqb-true}
 use Rattle.model.specs.Lists.{every}
 use Rattle.model.specs.Numbers.{bigEndian}
 use Rattle.model.specs.Query.{wrongSize, qdcount, goodHeader, goodQuestions, questionsEnd, goodOpt, EdnsOption, llqOptions, llqAt, llqOption, matched}
 use Rattle.model.specs.Calls.{refusal}
 use Rattle.model.proofs.ListLaws.{and-left, and-right, length-map, getD-map}
 use Rattle.model.proofs.QueryLaws.{header-facts, start-min}
-use Rattle.wire.specs.Records.{optionOf, padded, optionRecord}
-use Rattle.wire.specs.declared.LlqOption.{LlqOption}
-use Rattle.wire.proofs.Pad.{pad-at}
+use Rattle.wire.specs.Records.{padded}
+use Rattle.wire.proofs.Pad.{pad-at, pad-past}
 use Rattle.query.specs.declared.Header.{Header}
+use Rattle.query.specs.declared.OptionAt.{OptionAt}
 use Rattle.query.specs.declared.Options.{Options}
 use Rattle.query.specs.declared.Questions.{Questions}
-use Rattle.query.specs.Parts.{headerRecord, goodFields, goodStart, blankOption, isSized, llqFrom, QuestionsRead, OptionsRead}
+use Rattle.query.specs.Parts.{headerRecord, goodFields, goodStart, optionStart, blankOption, isSized, llqFrom, QuestionsRead, OptionsRead}
 use Rattle.query.specs.Whole.{queryRefusal, refusedWith, Reads}
 use Rattle.query.proofs.HeaderLaws.{fields-good}
+use Rattle.query.proofs.OptionLaws.{whole-body}
 use Rattle.query.proofs.QuestionLaws as questions
 
 -- an OPT record that starts well has its 11 bytes
@@ -116,20 +117,52 @@ module _ (d : List ℕ) (lo : 12 ≤ length d) (hi : length d ≤ 1472) (h : Hea
           unfolding matched
           match-is = rw (counted, fitted, asked)
 
-          -- option i, where the options matched
-          at-option : o .count ≡ h .qdcount → o .sized ≡ true → (i : ℕ) (e : LlqOption) → i < h .qdcount → optionOf (getD (o .all) i e) ≡ llqOption d i
-          unfolding llqAt
-          at-option c s i e l =
-              let f = asked-few hg in
-              let n : length (llqOptions d) ≡ h .qdcount = sym counted ∙ c in
-              let value : EdnsOption → LlqOption = λ x. optionRecord d (x .start) in
-              let a : o .all ≡ padded 8 blankOption (take 8 (map value (llqOptions d))) = rw options (oe .all fg s) in
-              let k : length (map value (llqOptions d)) ≡ h .qdcount = length-map value (llqOptions d) ∙ n in
-              let t : take 8 (map value (llqOptions d)) ≡ map value (llqOptions d) = take-all 8 (map value (llqOptions d)) (omega arith) in
-              let g : getD (o .all) i e ≡ value (getD (llqOptions d) i (record { code = 0; start = 0; size = 0 })) =
-              rw (a, t) (pad-at 8 blankOption (map value (llqOptions d)) i e (omega arith)
-              ∙ getD-map value (llqOptions d) i (record { code = 0; start = 0; size = 0 }) e (omega arith)) in
-              ap optionOf g
+          -- the options where they matched
+          module _ (c : o .count ≡ h .qdcount) (s : o .sized ≡ true) where
+            abbrev none : EdnsOption
+            none = record { code = 0; start = 0; size = 0 }
+
+            abbrev places : List OptionAt
+            places = map optionStart (llqOptions d)
+
+            many : length (llqOptions d) ≡ h .qdcount
+            many = sym counted ∙ c
+
+            filled : o .all ≡ padded 8 blankOption places
+            filled =
+                let f = asked-few hg in
+                let k : length places ≡ h .qdcount = length-map optionStart (llqOptions d) ∙ many in
+                let a : o .all ≡ padded 8 blankOption (take 8 places) = rw options (oe .all fg s) in
+                a ∙ ap (padded 8 blankOption) (take-all 8 places (omega arith))
+
+            starts : (i : ℕ) (e : OptionAt) → i < h .qdcount → getD (o .all) i e .start ≡ getD (llqOptions d) i none .start
+            starts i e l =
+                let n = many in
+                let k = length-map optionStart (llqOptions d) in
+                ap (λ (x : OptionAt). x .start) (rw filled (pad-at 8 blankOption places i e (omega arith) ∙ getD-map optionStart (llqOptions d) i none e (omega arith)))
+
+            at-option : (i : ℕ) (e : OptionAt) → i < h .qdcount → llqAt d (getD (o .all) i e .start) ≡ llqOption d i
+            at-option i e l = ap (llqAt d) (starts i e l)
+
+            -- 18 bytes behind each place, and behind place 0, which fills the array up
+            at-body : (i : ℕ) → getD (o .all) i blankOption .start + 18 ≤ length d
+            at-body i = go (ltb i (h .qdcount)) refl
+              where
+                go : (v : Bool) → ltb i (h .qdcount) ≡ v → getD (o .all) i blankOption .start + 18 ≤ length d
+                go true z =
+                    let l = ltb-true i (h .qdcount) z in
+                    let n = many in
+                    rw (starts i blankOption l, options) (whole-body d (at + 11) i none (sym (oe .sized fg) ∙ s) (rw options at (rw (sym n) at l)))
+                go false z =
+                    let l = ltb-false i (h .qdcount) z in
+                    let n = many in
+                    let k = length-map optionStart (llqOptions d) in
+                    let w = start-within d at sg in
+                    let m = start-min d (h .qdcount) in
+                    rw (filled, pad-past 8 blankOption places i (omega arith)) (omega (arith, qe .end qg))
+
+          both : eqb (o .count) (h .qdcount) && o .sized ≡ true → (o .count ≡ h .qdcount) × (o .sized ≡ true)
+          both w = (eqb-true (o .count) (h .qdcount) (and-left (eqb (o .count) (h .qdcount)) (o .sized) w), and-right (eqb (o .count) (h .qdcount)) (o .sized) w)
 
           pub taken : (m : Bool) → (o .count ≡ 0 → ⊥) → m ≡ eqb (o .count) (h .qdcount) && o .sized
               → Reads d (record { refused = 0; query = record { number = h .number; desired = h .flags % 2; count = h .qdcount; questions = q .all; options = o .all; end = q .end; matched = m } })
@@ -155,9 +188,7 @@ module _ (d : List ℕ) (lo : 12 ≤ length d) (hi : length d ≤ 1472) (h : Hea
                       from = rw (qe .end qg) (start-min d (h .qdcount));
                       within = start-within d at sg;
                       matched = me ∙ match-is;
-                      option = λ y i e l.
-                          let w = sym me ∙ y in
-                          at-option (eqb-true (o .count) (h .qdcount) (and-left (eqb (o .count) (h .qdcount)) (o .sized) w))
-                          (and-right (eqb (o .count) (h .qdcount)) (o .sized) w) i e l;
+                      option = λ y. let w = both (sym me ∙ y) in at-option (w .0) (w .1);
+                      whole = λ y. let w = both (sym me ∙ y) in at-body (w .0) (w .1);
                     };
               }

@@ -8,11 +8,11 @@ use lib.Dec.{eqb, leb}
 use Rattle.model.specs.Lists.{every, keep, upTo}
 use Rattle.model.specs.Numbers.{bigEndian}
 use Rattle.model.specs.Query.{questionStart, goodQuestions, EdnsOption, optionsFill, optionsFrom, optData}
-use Rattle.wire.specs.Records.{padded, recordAt, optionRecord}
+use Rattle.wire.specs.Records.{padded, recordAt}
 use Rattle.wire.specs.declared.Question.{Question}
-use Rattle.wire.specs.declared.LlqOption.{LlqOption}
 use Rattle.query.specs.declared.Header.{Header}
 use Rattle.query.specs.declared.Questions.{Questions}
+use Rattle.query.specs.declared.OptionAt.{OptionAt}
 use Rattle.query.specs.declared.Options.{Options}
 
 -- THE HEADER
@@ -62,8 +62,11 @@ goodStart d at =
 
 -- OPTIONS
 
-abbrev pub blankOption : LlqOption
-blankOption = record { version = 0; opcode = 0; error = 0; number = record { 0 = 0 }; lease = 0 }
+abbrev pub optionStart : EdnsOption → OptionAt
+optionStart o = record { start = o .start }
+
+abbrev pub blankOption : OptionAt
+blankOption = record { start = 0 }
 
 abbrev pub isLlq : EdnsOption → Bool
 isLlq o = eqb (o .code) 1
@@ -76,11 +79,11 @@ abbrev pub llqFrom : List ℕ → ℕ → List EdnsOption
 llqFrom d at = keep isLlq (optionsFrom (suc (length d)) d at)
 
 -- the first eight of them by value
-abbrev pub firstEight : List ℕ → List EdnsOption → List LlqOption
-firstEight d os = padded 8 blankOption (take 8 (map (λ o. optionRecord d (o .start)) os))
+abbrev pub firstEight : List EdnsOption → List OptionAt
+firstEight os = padded 8 blankOption (take 8 (map optionStart os))
 
 pub record OptionsRead (d : List ℕ) (at : ℕ) (r : Options) : Type 0 where
   pub fill : r .fill ≡ optionsFill (suc (length d)) d at
   pub count : r .fill ≡ true → r .count ≡ length (llqFrom d at)
   pub sized : r .fill ≡ true → r .sized ≡ every isSized (llqFrom d at)
-  pub all : r .fill ≡ true → r .sized ≡ true → r .all ≡ firstEight d (llqFrom d at)
+  pub all : r .fill ≡ true → r .sized ≡ true → r .all ≡ firstEight (llqFrom d at)

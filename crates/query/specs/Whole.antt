@@ -5,11 +5,11 @@ use mathlib.Core.Bool.{true, false, not}
 use mathlib.Core.List.{List, [], _∷_}
 use lib.ListN.{length, getD, replicate}
 use lib.Dec.{eqb}
-use Rattle.model.specs.Query.{wrongSize, messageNumber, flagRD, qdcount, goodHeader, goodQuestions, questionsEnd, question, goodOpt, llqOptions, llqOption, matched}
+use Rattle.model.specs.Query.{wrongSize, messageNumber, flagRD, qdcount, goodHeader, goodQuestions, questionsEnd, question, goodOpt, llqOptions, llqAt, llqOption, matched}
 use Rattle.model.specs.Calls.{refusal}
-use Rattle.wire.specs.Records.{questionOf, optionOf}
+use Rattle.wire.specs.Records.{questionOf}
 use Rattle.wire.specs.declared.Question.{Question}
-use Rattle.wire.specs.declared.LlqOption.{LlqOption}
+use Rattle.query.specs.declared.OptionAt.{OptionAt}
 use Rattle.query.specs.declared.Query.{Query}
 use Rattle.query.specs.declared.Parsed.{Parsed}
 use Rattle.query.specs.Parts.{blankQuestion, blankOption}
@@ -40,7 +40,7 @@ refusedWith k =
       };
     }
 
--- what a query holds of a datagram that none of them refuses; an array's element is read by getD, whatever its default
+-- what a query holds of a datagram that none of them refuses; an array's element is read by getD, whatever its default. Behind each place in the array of options lie 18 bytes.
 pub record Holds (d : List ℕ) (q : Query) : Type 0 where
   pub number : q .number .0 ≡ messageNumber d
   pub desired : q .desired ≡ flagRD d
@@ -54,7 +54,8 @@ pub record Holds (d : List ℕ) (q : Query) : Type 0 where
   pub from : 12 ≤ q .end
   pub within : q .end + 11 ≤ length d
   pub matched : q .matched ≡ matched d
-  pub option : q .matched ≡ true → (i : ℕ) (e : LlqOption) → i < q .count → optionOf (getD (q .options) i e) ≡ llqOption d i
+  pub option : q .matched ≡ true → (i : ℕ) (e : OptionAt) → i < q .count → llqAt d (getD (q .options) i e .start) ≡ llqOption d i
+  pub whole : q .matched ≡ true → (i : ℕ) → getD (q .options) i blankOption .start + 18 ≤ length d
 
 pub record Reads (d : List ℕ) (p : Parsed) : Type 0 where
   pub refused : p .refused ≡ queryRefusal d

@@ -6,8 +6,6 @@ ghost use Rattle.model.specs.Numbers.{bigEndian};
 ghost use Rattle.query.specs.Parts.{headerRecord, goodFields, blankQuestion, blankOption, QuestionsRead, OptionsRead, goodStart};
 ghost use Rattle.query.specs.Whole.{refusedWith, Reads};
 use wire::Cursor;
-use wire::LlqNumber;
-use wire::LlqOption;
 use wire::MessageNumber;
 use wire::OptionRead;
 use wire::Question;
@@ -30,9 +28,14 @@ pub struct Questions {
     pub good: bool,
 }
 
+// An option of code 1: where its 18 bytes start in the datagram. They are read where the option is served, by wire::option_of: eight options are then 16 bytes, not 192.
+pub struct OptionAt {
+    pub start: u16,
+}
+
 // The options of code 1: the first eight by value, how many there are, whether each has length 18; and whether the options fill the datagram.
 pub struct Options {
-    pub all: [LlqOption; 8],
+    pub all: [OptionAt; 8],
     pub count: usize,
     pub sized: bool,
     pub fill: bool,
@@ -44,7 +47,7 @@ pub struct Query {
     pub desired: u8,
     pub count: usize,
     pub questions: [Question; 8],
-    pub options: [LlqOption; 8],
+    pub options: [OptionAt; 8],
     pub end: usize,
     pub matched: bool,
 }
@@ -116,16 +119,10 @@ pub fn blank_question() -> Question
     }
 }
 
-pub fn blank_option() -> LlqOption
+pub fn blank_option() -> OptionAt
     ensures { λ r. ⌜ r ≡ blankOption ⌝ }
 {
-    LlqOption {
-        version: 0,
-        opcode: 0,
-        error: 0,
-        number: LlqNumber(0),
-        lease: 0,
-    }
+    OptionAt { start: 0 }
 }
 
 // Refusal 5: count questions from the header's end, of a datagram short enough that its places fit 16 bits.
@@ -195,9 +192,9 @@ pub fn opt_starts(s: &[u8], at: usize) -> bool
     at + 11 + octets::get16(s, at + 9) as usize == s.len()
 }
 
-// The options from a place to the end.
+// The options from a place to the end, of a datagram short enough that its places fit 16 bits.
 pub fn read_options(s: &[u8], first: Cursor) -> Options
-    requires { ⌜ first .at ≤ length (now s) ⌝ }
+    requires { ⌜ (first .at ≤ length (now s)) × (length (now s) ≤ 1472) ⌝ }
     ensures { λ r. ⌜ OptionsRead (now (s .entry)) (first .at) r ⌝ }
 {
     let none = blank_option();
@@ -216,7 +213,8 @@ pub fn read_options(s: &[u8], first: Cursor) -> Options
                 if code == 1 {
                     if size == 18 {
                         if count < 8 {
-                            all[count] = wire::option_of(s, start);
+                            let start = start as u16;
+                            all[count] = OptionAt { start };
                             count = count + 1;
                             c = next;
                         } else {

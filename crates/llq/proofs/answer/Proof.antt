@@ -9,7 +9,7 @@ use Rattle.model.specs.Table.{readTable}
 use Rattle.model.specs.Reply.{optionBytes, mismatch}
 use Rattle.entries.specs.Reads.{senderOf}
 use Rattle.llq.specs.Answer.{outcomeFrom}
-use Rattle.llq.proofs.FoundLaws.{measures, questions-of}
+use Rattle.llq.proofs.FoundLaws.{measures, questions-of, options-of}
 use Rattle.llq.proofs.ReplyLaws.{length-matched, length-mismatched}
 use Rattle.llq.proofs.AnswerLaws.{answers-matched, answers-mismatched}
 use borrow.Author.Needs.{needs}
@@ -39,7 +39,7 @@ serve-each-requires c κs =
     let f = z .pre .1 in
     let m = measures d _ (z .pre .1) in
     let e = length-matched d _ _ _ m (f .matched) (c .before .before .before .before .before .before .if1 .taken) in
-    (z .pre .0, m .atMost, questions-of d _ (z .pre .1), f .option (c .before .before .before .before .before .before .if1 .taken), omega (arith, e, z .pre .2, z))
+    (z .pre .0, m .atMost, questions-of d _ (z .pre .1), options-of d _ (z .pre .1) (c .before .before .before .before .before .before .if1 .taken), omega (arith, e, z .pre .2, z))
 
 put-front-requires-2 : tie.Need-put-front-requires-2
 put-front-requires-2 c κs =

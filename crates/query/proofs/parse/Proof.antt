@@ -95,8 +95,10 @@ add-t11 c =
     omega arith
 
 read-options-requires : tie.Need-read-options-requires
-read-options-requires c κs =
-    law.start-within (now (c .before .before .before .before .before .before .before .before .before .before .before .before .args .d)) (c .before .before .before .before .read-questions .result .end) (sym (c .before .opt-starts .ensures) ∙ not-false _ (c .if5 .left))
+read-options-requires c κs = (
+  law.start-within (now (c .before .before .before .before .before .before .before .before .before .before .before .before .args .d)) (c .before .before .before .before .read-questions .result .end) (sym (c .before .opt-starts .ensures) ∙ not-false _ (c .if5 .left)),
+  c .before .before .before .before .before .before .before .before .before .if2 .left,
+)
 
 refuse-requires-6 : tie.Need-refuse-requires-6
 refuse-requires-6 c κs = search needs
