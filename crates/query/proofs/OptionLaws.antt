@@ -149,8 +149,8 @@ module _ (d : List ℕ) (first at count : ℕ) (sized : Bool) (all : List Option
       eight-next : firstEight (p .passed ++ (optionAt d at ∷ [])) ≡ padded 8 blankOption (take 8 (map optionStart (p .passed) ++ (optionStart (optionAt d at) ∷ [])))
       eight-next = ap (λ (l : List OptionAt). padded 8 blankOption (take 8 l)) (map-append optionStart (p .passed) (optionAt d at ∷ []))
 
-      length-values : length (map optionStart (p .passed)) ≡ count
-      length-values = length-map optionStart (p .passed) ∙ sym (p .counted)
+      length-places : length (map optionStart (p .passed)) ≡ count
+      length-places = length-map optionStart (p .passed) ∙ sym (p .counted)
 
       -- one of length 18, among the first eight
       pub pass-stored : bigEndian d at 2 ≡ 1 → bigEndian d (at + 2) 2 ≡ 18 → count < 8
@@ -159,7 +159,7 @@ module _ (d : List ℕ) (first at count : ℕ) (sized : Bool) (all : List Option
       pass-stored e f h =
           pass-llq sized (set all count (record { start = at + 4 })) e (same-sized f)
           (λ z.
-          rw (p .stored z) (keep-more 8 blankOption (map optionStart (p .passed)) (optionStart (optionAt d at)) count length-values h) ∙ sym eight-next)
+          rw (p .stored z) (keep-more 8 blankOption (map optionStart (p .passed)) (optionStart (optionAt d at)) count length-places h) ∙ sym eight-next)
 
       -- one of length 18, beyond the first eight
       pub pass-beyond : bigEndian d at 2 ≡ 1 → bigEndian d (at + 2) 2 ≡ 18 → 8 ≤ count → Passed d first (optionEnd d at) (count + 1) sized all
@@ -167,7 +167,7 @@ module _ (d : List ℕ) (first at count : ℕ) (sized : Bool) (all : List Option
           pass-llq sized all e (same-sized f)
           (λ z.
           p .stored z
-          ∙ ap (padded 8 blankOption) (keep-full 8 (map optionStart (p .passed)) (optionStart (optionAt d at)) (rw length-values h)) ∙ sym eight-next)
+          ∙ ap (padded 8 blankOption) (keep-full 8 (map optionStart (p .passed)) (optionStart (optionAt d at)) (rw length-places h)) ∙ sym eight-next)
 
       -- one of another length
       pub pass-unfit : bigEndian d at 2 ≡ 1 → (bigEndian d (at + 2) 2 ≡ 18 → ⊥) → Passed d first (optionEnd d at) (count + 1) false all

@@ -20,13 +20,13 @@ pub struct Question {
     pub qclass: u16,
 }
 
-// An LLQ option's 18 bytes. The widest fields come first: no gaps between them, so that eight options are cleared and copied as one block.
+// An LLQ option's 18 bytes.
 pub struct LlqOption {
-    pub number: LlqNumber,
-    pub lease: u32,
     pub version: u16,
     pub opcode: u16,
     pub error: u16,
+    pub number: LlqNumber,
+    pub lease: u32,
 }
 
 // A place in a message. Each reader takes it and hands it back moved on.
