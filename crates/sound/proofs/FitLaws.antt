@@ -1,19 +1,21 @@
--- One slot more in each pass over pairs, and the roster that a making is given. Assumes nothing.
+-- One slot more in each pass over pairs; records by themselves before their rules together; the roster that a making is given. Assumes nothing.
 use Prim.Native.Nat.{ℕ, _+_, _*_, _<_}
 use native.Mathlib.Omega.{arith}
 use mathlib.Core.Path.{_≡_, refl, _∙_}
 use mathlib.Core.Bool.{Bool, true, false, not, cond, _&&_, and-assoc}
 use mathlib.Core.List.{List}
 use lib.ListN.{length, getD}
-use lib.Dec.{eqb, leb}
+use lib.Dec.{eqb, leb, ltb}
 use borrow.Author.Tests.{eqb-true, le-leb, lt-leb}
 use Rattle.model.specs.Lists.{count, any, every, noTwo}
-use Rattle.model.specs.Table.{Line, slotAt}
+use Rattle.model.specs.Numbers.{bigEndian}
+use Rattle.model.specs.Clock.{cycle}
+use Rattle.model.specs.Table.{Line, slotAt, listed}
 use Rattle.model.specs.Rules.{Holding, numbered, heldBy, limitOf, reserve}
-use Rattle.model.specs.Sound.{validLine, validEntry, sameNumber, sameQuestion, soundHoldings}
+use Rattle.model.specs.Sound.{validLine, validEntry, sameNumber, sameQuestion, soundRoster, soundHoldings}
 use Rattle.model.specs.Calls.{goodRoster, rosterCount}
-use Rattle.model.proofs.ListLaws.{swap, every-not}
-use Rattle.layout.specs.Shape.{inUse}
+use Rattle.model.proofs.ListLaws.{never, and-left, and-right, swap, every-not}
+use Rattle.layout.specs.Shape.{inUse, linesTo, tableShape}
 use Rattle.layout.specs.Held.{holdingAt, heldTo, okAt, within}
 use Rattle.sound.specs.Fits.{fits, fitted}
 use Rattle.layout.proofs.HeldLaws.{two-next, two-yes, two-no, grows-no}
@@ -64,6 +66,32 @@ pub holdings-is : (n : ℕ) (ls : List Line) (hs : List Holding) → soundHoldin
     ≡ every validEntry hs && (noTwo sameNumber hs && ((noTwo sameQuestion hs && every (within ls hs) hs) && leb (reserve ls (count hs) + count hs any) n))
 unfolding soundHoldings
 holdings-is n ls hs = simp and-assoc
+
+-- RECORDS BY THEMSELVES, before the rules of them together
+
+module _ (b : List ℕ) (n : ℕ) where
+  abbrev recordsGood : Bool
+  recordsGood = tableShape b n && every validEntry (heldTo b n)
+
+  pub good-shape : recordsGood ≡ true → tableShape b n ≡ true
+  good-shape = and-left (tableShape b n) (every validEntry (heldTo b n))
+
+  pub good-entries : recordsGood ≡ true → every validEntry (heldTo b n) ≡ true
+  good-entries = and-right (tableShape b n) (every validEntry (heldTo b n))
+
+  -- where one is not good, no rule that is judged after it matters
+  pub not-good : recordsGood ≡ false
+      → tableShape b n && (ltb (bigEndian b 1 4) cycle && (soundRoster n (linesTo b (listed b 16)) && soundHoldings n (linesTo b (listed b 16)) (heldTo b n))) ≡ false
+  not-good z =
+      let ls = linesTo b (listed b 16) in
+      rw (holdings-is n ls (heldTo b n)) (go (tableShape b n) (ltb (bigEndian b 1 4) cycle) (soundRoster n ls) (every validEntry (heldTo b n)) _ z)
+    where
+      go : (s p r e x : Bool) → s && e ≡ false → s && (p && (r && (e && x))) ≡ false
+      go false p r e x z = refl
+      go true false r e x z = refl
+      go true true false e x z = refl
+      go true true true false x z = refl
+      go true true true true x z = never refl z
 
 -- a roster of more than 16 lines
 pub too-long : (n : ℕ) (r : List ℕ) → 304 < length r → goodRoster n r ≡ false

@@ -19,35 +19,6 @@ ghost use Rattle.sound.specs.Fits.{fits, fitted, takenBy, takes, togethe
 // As many slots are few: all pairs of their entries are compared.
 const FEW: usize = 8;
 
-// Each slot has its kind's zeros.
-fn slots_shape(t: &[u8], n: usize) -> bool
-    requires { ⌜ (n ≤ 64) × (slotAt n ≤ length (now t)) ⌝ }
-    ensures { λ r. ⌜ r ≡ all (λ i. slotShape (now (t .entry)) (slotAt i)) n ⌝ }
-{
-    let mut i: usize = 0;
-    while i < n {
-        if !record::slot_shape(t, layout::SLOTS_AT + layout::SLOT * i) {
-            return false;
-        }
-        i += 1;
-    }
-    true
-}
-
-// Kinds, order and zeros are as the layout has them; m lines are listed.
-fn table_shape(t: &[u8], n: usize, m: usize) -> bool
-    requires { ⌜ (n ≤ 64) × (m ≤ 16) × (slotAt n ≤ length (now t)) × (m ≡ listed (now t) 16) ⌝ }
-    ensures { λ r. ⌜ r ≡ tableShape (now (t .entry)) n ⌝ }
-{
-    if t[0] != 1 {
-        return false;
-    }
-    if !roster::unused_from(t, m) {
-        return false;
-    }
-    slots_shape(t, n)
-}
-
 // Slot i is free, or its entry meets an entry's rules.
 fn slot_valid(t: &[u8], i: usize, running: u32) -> bool
     requires { ⌜ (i < 64) × (slotAt (i + 1) ≤ length (now t)) × (running ≡ bigEndian (now t) 5 4) ⌝ }
@@ -60,20 +31,37 @@ fn slot_valid(t: &[u8], i: usize, running: u32) -> bool
     true
 }
 
-// Each entry meets an entry's rules.
-fn entries_valid(t: &[u8], n: usize) -> bool
+// Each slot has its kind's zeros, and each entry meets an entry's rules. One walk for both: the loads of the one go on while the other waits for a name's next label.
+fn slots_good(t: &[u8], n: usize) -> bool
     requires { ⌜ (n ≤ 64) × (slotAt n ≤ length (now t)) ⌝ }
-    ensures { λ r. ⌜ r ≡ every validEntry (heldTo (now (t .entry)) n) ⌝ }
+    ensures { λ r. ⌜ r ≡ (all (λ i. slotShape (now (t .entry)) (slotAt i)) n && every validEntry (heldTo (now (t .entry)) n)) ⌝ }
 {
     let running = octets::get32(t, layout::RUNNING_AT);
     let mut i: usize = 0;
     while i < n {
+        if !record::slot_shape(t, layout::SLOTS_AT + layout::SLOT * i) {
+            return false;
+        }
         if !slot_valid(t, i, running) {
             return false;
         }
         i += 1;
     }
     true
+}
+
+// Kinds, order and zeros are as the layout has them, and each entry meets an entry's rules; m lines are listed.
+fn records_good(t: &[u8], n: usize, m: usize) -> bool
+    requires { ⌜ (n ≤ 64) × (m ≤ 16) × (slotAt n ≤ length (now t)) × (m ≡ listed (now t) 16) ⌝ }
+    ensures { λ r. ⌜ r ≡ (tableShape (now (t .entry)) n && every validEntry (heldTo (now (t .entry)) n)) ⌝ }
+{
+    if t[0] != 1 {
+        return false;
+    }
+    if !roster::unused_from(t, m) {
+        return false;
+    }
+    slots_good(t, n)
 }
 
 // The address may hold one entry more than k.
@@ -281,23 +269,20 @@ fn many_together(t: &[u8], n: usize, m: usize) -> bool
     kept + holdings::held(t, n) <= n
 }
 
-// The rules of the entries. Up to FEW slots, comparing all pairs takes less time than setting the tables of first slots up.
+// The rules of the entries, each of which meets its own. Up to FEW slots, comparing all pairs takes less time than setting the tables of first slots up.
 fn holdings_sound(t: &[u8], n: usize, m: usize, shares: usize) -> bool
-    requires { ⌜ (n ≤ 64) × (m ≤ 16) × (slotAt n ≤ length (now t)) × (shares ≤ 64) × (shares ≡ sharesOf (linesTo (now t) m)) × (every validLine (linesTo (now t) m) ≡ true) × (noTwo sameAddress (linesTo (now t) m) ≡ true) ⌝ }
+    requires { ⌜ (n ≤ 64) × (m ≤ 16) × (slotAt n ≤ length (now t)) × (shares ≤ 64) × (shares ≡ sharesOf (linesTo (now t) m)) × (every validLine (linesTo (now t) m) ≡ true) × (noTwo sameAddress (linesTo (now t) m) ≡ true) × (every validEntry (heldTo (now t) n) ≡ true) ⌝ }
     ensures { λ r. ⌜ r ≡ soundHoldings n (linesTo (now (t .entry)) m) (heldTo (now (t .entry)) n) ⌝ }
 {
-    if !entries_valid(t, n) {
-        return false;
-    }
     if n <= FEW {
         return few_together(t, n, m, shares);
     }
     many_together(t, n, m)
 }
 
-// The rules of a table of n slots.
+// The rules of a table of n slots, whose entries each meet their own.
 fn rules_sound(t: &[u8], n: usize, m: usize) -> bool
-    requires { ⌜ (n ≤ 64) × (m ≤ 16) × (slotAt n ≤ length (now t)) ⌝ }
+    requires { ⌜ (n ≤ 64) × (m ≤ 16) × (slotAt n ≤ length (now t)) × (every validEntry (heldTo (now t) n) ≡ true) ⌝ }
     ensures { λ r. ⌜ r ≡ (ltb (bigEndian (now (t .entry)) 1 4) cycle && (soundRoster n (linesTo (now (t .entry)) m) && soundHoldings n (linesTo (now (t .entry)) m) (heldTo (now (t .entry)) n))) ⌝ }
 {
     if octets::get32(t, layout::PLACE_AT) >= 619315200 {
@@ -322,7 +307,7 @@ pub fn sound(t: &[u8]) -> bool
         return false;
     }
     let m = roster::listed_lines(t);
-    if !table_shape(t, n, m) {
+    if !records_good(t, n, m) {
         return false;
     }
     rules_sound(t, n, m)

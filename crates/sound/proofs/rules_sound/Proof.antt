@@ -49,7 +49,7 @@ holdings-sound-requires c κs =
     let a = c .before .before .before .before .before .before .before .args in
     let v = every validLine (linesTo (a .t .now) (a .m)) in
     let d = noTwo sameAddress (linesTo (a .t .now) (a .m)) in
-    (omega arith, omega arith, omega arith, omega arith, c .before .share-sum .ensures, and-left v d e, and-right v d e)
+    (omega arith, omega arith, omega arith, omega arith, c .before .share-sum .ensures, and-left v d e, and-right v d e, c .before .before .before .before .before .before .before .pre .3)
 
 returns-4 : tie.Need-returns-4
 unfolding soundRoster
