@@ -1,8 +1,8 @@
 //! Times the same calls on three sides in one run: the library, the oracle and plain C.
 //!
 //! ```text
-//! bench            60 batches of about 500 us a side and workload
-//! bench --quick    8 batches of about 200 us
+//! bench            1000 batches of about 100 us a side and workload
+//! bench --quick    20 batches of about 100 us
 //! ```
 //!
 //! Exits with 1 if the sides do not agree, before anything is timed or after.
@@ -355,8 +355,8 @@ fn run(timing: &Timing) -> Result<(), String> {
 fn main() -> ExitCode {
     let words: Vec<String> = std::env::args().skip(1).collect();
     let timing = match words.iter().map(String::as_str).collect::<Vec<_>>()[..] {
-        [] => Timing { batches: 60, batch: Duration::from_micros(500) },
-        ["--quick"] => Timing { batches: 8, batch: Duration::from_micros(200) },
+        [] => Timing { batches: 1000, batch: Duration::from_micros(100) },
+        ["--quick"] => Timing { batches: 20, batch: Duration::from_micros(100) },
         _ => {
             eprintln!("usage: bench [--quick]");
             return ExitCode::from(2);
