@@ -7,11 +7,12 @@ ghost use Rattle.model.specs.Clock.{cycle, validReading, placeOf, ageAt, runOut
 ghost use Rattle.model.specs.Clock.{step as stepOf, advance as advanceOf};
 ghost use Rattle.clock.specs.Clock.{clockOf};
 
-const CYCLE: u32 = 619315200;
+// 1,024 weeks of seconds.
+pub const CYCLE: u32 = WEEKS * WEEK;
 
 const HALF: u32 = CYCLE / 2;
 
-const WHOLE: i32 = 619315200;
+const WHOLE: i32 = CYCLE as i32;
 
 const WEEKS: u32 = 1024;
 

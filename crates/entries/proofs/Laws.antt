@@ -1,13 +1,13 @@
 -- Laws for loops over a table's slots: what is found, what is in use, what is full. Assumes nothing.
 use Prim.Native.Nat.{ℕ, zero, suc, _+_, _-_, _%_, _^_, _≤_, _<_}
 use native.Mathlib.Omega.{arith}
-use borrow.Author.Tests.{ne-eqb, le-leb, lt-leb}
-use mathlib.Core.Path.{_≡_, refl, ap, _∙_}
+use borrow.Author.Tests.{le-leb, lt-leb, lt-ltb, le-ltb, ltb-true, ltb-false}
+use mathlib.Core.Path.{_≡_, refl, sym, ap, _∙_}
 use mathlib.Core.Logic.{_≢_}
-use mathlib.Core.Bool.{Bool, true, false, not, cond, _&&_, _||_, and-false}
+use mathlib.Core.Bool.{Bool, true, false, not, cond, _&&_, _||_, and-false, true≢false}
 use mathlib.Core.List.{List}
 use lib.ListN.{length, getD}
-use lib.Dec.{eqb, leb}
+use lib.Dec.{eqb, leb, ltb}
 use Rattle.model.specs.Lists.{count, any, indexOf}
 use Rattle.model.specs.Numbers.{bigEndian}
 use Rattle.model.specs.Table.{Slot, free, held, slotAt, sizeOf, readEntry, readSlot, readTable, listed}
@@ -19,7 +19,13 @@ use Rattle.layout.specs.Shape.{inUse, slotsTo, linesTo}
 use Rattle.layout.specs.Held.{heldTo}
 use Rattle.layout.proofs.LayoutLaws.{roster-read, slots-read, holdings-read}
 use Rattle.layout.proofs.ReadLaws.{running-read}
-use Rattle.entries.specs.Reads.{wanted, noneTo}
+use Rattle.record.specs.declared.State.{State}
+use Rattle.record.specs.State.{stateOf, hasEntry, isEstablished}
+use Rattle.record.proofs.StateLaws.{kind-in, established-is}
+use Rattle.entries.specs.declared.Entry.{Entry}
+use Rattle.entries.specs.declared.Found.{Found}
+use Rattle.entries.specs.declared.Found.the-variants.{Slot as slot, Nothing as nothing}
+use Rattle.entries.specs.Reads.{entryAt, foundAt, slotHas, noneTo}
 
 -- ONE SLOT
 
@@ -47,13 +53,26 @@ fails-part r p q b at f e = has-is r p b at ∙ go (inUse (getD b at 0)) (q (hol
     go true v w f e = f e
     go false v w f e = refl
 
--- an established entry
-pub six-in : (b : List ℕ) (at : ℕ) → getD b at 0 ≡ 6 → inUse (getD b at 0) ≡ true
-six-in b at e = rw e
+-- a slot whose entry fails the test has none that passes
+pub has-never : (r : ℕ) (p : Holding → Bool) (b : List ℕ) (at : ℕ) → p (holding r (readEntry b at)) ≡ false → has r p (readSlot b at) ≡ false
+has-never r p b at e = has-is r p b at ∙ rw e (and-false (inUse (getD b at 0)))
 
-pub not-six : (r : ℕ) (p : Holding → Bool) (b : List ℕ) (at : ℕ) → getD b at 0 ≢ 6 → has r (λ h. h .established && p h) (readSlot b at) ≡ false
-unfolding readEntry
-not-six r p b at n = has-is r (λ h. h .established && p h) b at ∙ (rw (ne-eqb (getD b at 0) 6 n) (and-false (eqb (getD b at 0) 5 || false)))
+-- two tests that agree on the slot's entry
+pub has-same : (r : ℕ) (p q : Holding → Bool) (b : List ℕ) (at : ℕ) → p (holding r (readEntry b at)) ≡ q (holding r (readEntry b at))
+    → has r p (readSlot b at) ≡ has r q (readSlot b at)
+has-same r p q b at e = has-is r p b at ∙ ap (λ (v : Bool). inUse (getD b at 0) && v) e ∙ sym (has-is r q b at)
+
+-- THE STATE of an entry that is read
+module _ (b : List ℕ) (at : ℕ) (e : Entry) (h : e ≡ entryAt b at) where
+  -- it is an entry's kind, or not
+  pub state-in : (s : State) → e .state ≡ s → inUse (getD b at 0) ≡ hasEntry s
+  unfolding entryAt
+  state-in s g = kind-in (getD b at 0) (e .state) s (ap (λ (x : Entry). x .state) h) g
+
+  -- it is an established entry's, or not
+  pub state-established : (s : State) → e .state ≡ s → readEntry b at .established ≡ isEstablished s
+  unfolding entryAt readEntry
+  state-established s g = sym (established-is (getD b at 0)) ∙ ap isEstablished (sym (ap (λ (x : Entry). x .state) h) ∙ g)
 
 -- THE SLOTS OF A TABLE OF n
 
@@ -68,14 +87,52 @@ module _ (b : List ℕ) (n : ℕ) (size : length b ≡ sizeOf n) where
     unfolding noneTo
     index-none-here e = ap (indexOf q) (slots-read b n size) ∙ index-upTo-none q n (λ j. readSlot b (slotAt j)) e
 
-  pub found : (p : Holding → Bool) (i : ℕ) → i < n → noneTo b (has (bigEndian b 5 4) p) i → wanted b p i ≡ true
+  found : (p : Holding → Bool) (i : ℕ) → i < n → noneTo b (has (bigEndian b 5 4) p) i → slotHas b p i ≡ true
       → findEntry p (readTable b) ≡ i
   unfolding findEntry
   found p i l e t = ap (λ (r : ℕ). indexOf (has r p) (readTable b .slots)) (running-read b) ∙ index-here (has (bigEndian b 5 4) p) i l e t
 
-  pub not-found : (p : Holding → Bool) → noneTo b (has (bigEndian b 5 4) p) n → findEntry p (readTable b) ≡ n
+  not-found : (p : Holding → Bool) → noneTo b (has (bigEndian b 5 4) p) n → findEntry p (readTable b) ≡ n
   unfolding findEntry
   not-found p e = ap (λ (r : ℕ). indexOf (has r p) (readTable b .slots)) (running-read b) ∙ index-none-here (has (bigEndian b 5 4) p) e
+
+  -- a finder's two ways out
+  pub slot-found : (p : Holding → Bool) (i : ℕ) → i < n → noneTo b (has (bigEndian b 5 4) p) i → slotHas b p i ≡ true → (e : Entry) → e ≡ entryAt b (slotAt i)
+      → slot i e ≡ foundAt b n (findEntry p (readTable b))
+  slot-found p i l f g e h = rw (found p i l f g, lt-ltb i n l, h)
+
+  pub nothing-found : (p : Holding → Bool) → noneTo b (has (bigEndian b 5 4) p) n → nothing ≡ foundAt b n (findEntry p (readTable b))
+  nothing-found p f = rw (not-found p f, le-ltb n n (omega arith))
+
+-- WHAT WAS FOUND, told by what a finder gave
+
+abbrev isSlot : Found → Bool
+isSlot (slot i e) = true
+isSlot nothing = false
+
+abbrev indexIn : Found → ℕ
+indexIn (slot i e) = i
+indexIn nothing = 0
+
+abbrev entryIn : Entry → Found → Entry
+entryIn d (slot i e) = e
+entryIn d nothing = d
+
+pub found-is : (b : List ℕ) (n i j : ℕ) (e : Entry) → foundAt b n i ≡ slot j e → (j ≡ i) × (j < n) × (e ≡ entryAt b (slotAt j))
+found-is b n i j e = go (ltb i n) refl
+  where
+    go : (v : Bool) → ltb i n ≡ v → cond v (slot i (entryAt b (slotAt i))) nothing ≡ slot j e → (j ≡ i) × (j < n) × (e ≡ entryAt b (slotAt j))
+    go true h g =
+        let k : j ≡ i = sym (ap indexIn g) in
+        (k, rw k (ltb-true i n h), rw k (sym (ap (entryIn e) g)))
+    go false h g = absurd (true≢false (sym (ap isSlot g)))
+
+pub nothing-is : (b : List ℕ) (n i : ℕ) → foundAt b n i ≡ nothing → n ≤ i
+nothing-is b n i = go (ltb i n) refl
+  where
+    go : (v : Bool) → ltb i n ≡ v → cond v (slot i (entryAt b (slotAt i))) nothing ≡ nothing → n ≤ i
+    go true h g = absurd (true≢false (ap isSlot g))
+    go false h g = ltb-false i n h
 
 -- none of the slots below i, and so none below i + 1
 pub none-yet : (b : List ℕ) (q : Slot → Bool) → noneTo b q 0
@@ -93,7 +150,7 @@ count-held : (b : List ℕ) (n : ℕ) → length b ≡ sizeOf n → (p : Holding
 unfolding heldTo
 count-held b n size p = ap (λ (hs : List Holding). count hs p) (holdings-read b n size) ∙ count-entries (bigEndian b 5 4) (slotsTo b n) p
 
-pub used-hit : (b : List ℕ) (n : ℕ) → length b ≡ sizeOf n → (p : Holding → Bool) (i : ℕ) → i < n → wanted b p i ≡ true → leb 1 (count (holdings (readTable b)) p) ≡ true
+pub used-hit : (b : List ℕ) (n : ℕ) → length b ≡ sizeOf n → (p : Holding → Bool) (i : ℕ) → i < n → slotHas b p i ≡ true → leb 1 (count (holdings (readTable b)) p) ≡ true
 used-hit b n size p i l t =
     let f : ℕ → Slot = λ j. readSlot b (slotAt j) in
     let h : 1 ≤ count (slotsTo b n) (has (bigEndian b 5 4) p) =

@@ -1,10 +1,10 @@
 -- The code's sender, question and entry as the model's, and what a loop over slots has passed. Assumes nothing.
 use Prim.Native.Nat.{ℕ, _+_, _*_, _^_}
 use mathlib.Core.Path.{_≡_}
-use mathlib.Core.Bool.{Bool, true, not, cond}
+use mathlib.Core.Bool.{Bool, true, not, cond, _&&_}
 use mathlib.Core.List.{List}
 use lib.ListN.{getD}
-use lib.Dec.{eqb}
+use lib.Dec.{eqb, ltb}
 use Rattle.model.specs.Lists.{every}
 use Rattle.model.specs.Numbers.{bigEndian}
 use Rattle.model.specs.Query as query
@@ -15,9 +15,11 @@ use Rattle.model.specs.Serve as serve
 use Rattle.model.specs.Serve.{has}
 use Rattle.layout.specs.Shape.{slotsTo}
 use Rattle.entries.specs.declared.Sender.{Sender}
-use Rattle.entries.specs.declared.State.{State}
-use Rattle.entries.specs.declared.State.the-variants.{Free, Pending, Established}
+use Rattle.wire.specs.declared.Question.{Question}
+use Rattle.record.specs.State.{stateOf}
 use Rattle.entries.specs.declared.Entry.{Entry}
+use Rattle.entries.specs.declared.Found.{Found}
+use Rattle.entries.specs.declared.Found.the-variants.{Slot, Nothing}
 
 -- an address of two halves
 abbrev pub addressOf : ℕ → ℕ → ℕ
@@ -29,10 +31,6 @@ senderOf s = record { address = addressOf (s .high) (s .low); port = s .port }
 -- of an option, what a finder goes by: its number and its lease
 abbrev pub sent : ℕ → ℕ → query.LlqOption
 sent number lease = record { version = 1; opcode = 1; error = 0; number = number; lease = lease }
-
--- 0x05 pending, 0x06 established
-abbrev pub stateOf : ℕ → State
-stateOf k = cond (eqb k 5) Pending (cond (eqb k 6) Established Free)
 
 -- the slot at a place as the code reads it
 unfoldable pub entryAt : List ℕ → ℕ → Entry
@@ -50,9 +48,19 @@ entryAt b at =
       len = getD b (at + 39) 0;
     }
 
+-- the entry has the sender's address and port, and the question's type, class and length of name
+abbrev pub sameFields : Entry → Sender → Question → Bool
+sameFields e s q =
+    eqb (e .low) (s .low)
+    && (eqb (e .high) (s .high) && (eqb (e .port) (s .port) && (eqb (e .qtype) (q .qtype) && (eqb (e .qclass) (q .qclass) && eqb (e .len) (q .len)))))
+
+-- slot i of n as it is found, with its entry; nothing where there is no such slot
+abbrev pub foundAt : List ℕ → ℕ → ℕ → Found
+foundAt b n i = cond (ltb i n) (Slot i (entryAt b (slotAt i))) Nothing
+
 -- slot i has an entry that passes the test
-abbrev pub wanted : List ℕ → (Holding → Bool) → ℕ → Bool
-wanted b p i = has (bigEndian b 5 4) p (readSlot b (slotAt i))
+abbrev pub slotHas : List ℕ → (Holding → Bool) → ℕ → Bool
+slotHas b p i = has (bigEndian b 5 4) p (readSlot b (slotAt i))
 
 -- none of the slots below i passes the test
 unfoldable pub noneTo : List ℕ → (table.Slot → Bool) → ℕ → Type 0

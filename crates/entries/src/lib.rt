@@ -1,4 +1,5 @@
 // What is read of a table's slots, where they lie. A slot is found by its first index, as the model finds it.
+use record::State;
 use wire::LlqNumber;
 use wire::Question;
 ghost use mathlib.Core.Path.{_≡_};
@@ -7,11 +8,12 @@ ghost use Prim.Native.Nat.{_+_, _≤_};
 ghost use lib.ListN.{length};
 ghost use lib.Dec.{eqb, leb};
 ghost use Rattle.model.specs.Lists.{count, indexOf};
-ghost use Rattle.model.specs.Table.{slotAt, sizeOf, slotsIn, readSlot, readTable};
+ghost use Rattle.model.specs.Clock.{ageAt, runOut};
+ghost use Rattle.model.specs.Table.{slotAt, sizeOf, slotsIn, readEntry, readSlot, readTable};
 ghost use Rattle.model.specs.Rules.{holdings, numbered, asks, full, freshNumber};
 ghost use Rattle.model.specs.Serve.{isFree, findEntry, slotRunOut, answers, refreshes};
 ghost use Rattle.wire.specs.Records.{questionOf};
-ghost use Rattle.entries.specs.Reads.{addressOf, senderOf, stateOf, entryAt, wanted, sent};
+ghost use Rattle.entries.specs.Reads.{addressOf, senderOf, entryAt, foundAt, sameFields, slotHas, sent};
 ghost use Rattle.layout.specs.Held.{holdingAt};
 
 // Who sent the datagram: an address in two halves, and a port.
@@ -19,13 +21,6 @@ pub struct Sender {
     pub high: u64,
     pub low: u64,
     pub port: u16,
-}
-
-// What a slot can be.
-pub enum State {
-    Free,
-    Pending,
-    Established,
 }
 
 // What a slot says beside its name.
@@ -42,17 +37,10 @@ pub struct Entry {
     pub len: u8,
 }
 
-// What a slot of this kind is.
-fn state_of(k: u8) -> State
-    ensures { λ r. ⌜ r ≡ stateOf k ⌝ }
-{
-    if k == 5 {
-        return State::Pending;
-    }
-    if k == 6 {
-        return State::Established;
-    }
-    State::Free
+// A slot that was found, with its entry.
+pub enum Found {
+    Slot(usize, Entry),
+    Nothing,
 }
 
 // Slot i as it is stored.
@@ -62,119 +50,131 @@ pub fn entry_at(t: &[u8], i: usize) -> Entry
 {
     let a = layout::SLOTS_AT + layout::SLOT * i;
     Entry {
-        state: state_of(t[a]),
-        high: octets::get64(t, a + 1),
-        low: octets::get64(t, a + 9),
-        port: octets::get16(t, a + 17),
-        number: LlqNumber(octets::get64(t, a + 19)),
-        lease: octets::get32(t, a + 27),
-        stamp: octets::get32(t, a + 31),
-        qtype: octets::get16(t, a + 35),
-        qclass: octets::get16(t, a + 37),
-        len: t[a + 39],
+        state: record::state_of(t[a]),
+        high: octets::get64(t, a + layout::ADDRESS_AT),
+        low: octets::get64(t, a + layout::LOW_AT),
+        port: octets::get16(t, a + layout::PORT_AT),
+        number: LlqNumber(octets::get64(t, a + layout::NUMBER_AT)),
+        lease: octets::get32(t, a + layout::LEASE_AT),
+        stamp: octets::get32(t, a + layout::STAMP_AT),
+        qtype: octets::get16(t, a + layout::TYPE_AT),
+        qclass: octets::get16(t, a + layout::CLASS_AT),
+        len: t[a + layout::NAME_LENGTH_AT],
     }
 }
 
-// The stamp of slot i.
-pub fn stamp_at(t: &[u8], i: usize) -> u32
-    requires { ⌜ slotAt (i + 1) ≤ length (now t) ⌝ }
-    ensures { λ r. ⌜ r ≡ entryAt (now (t .entry)) (slotAt i) .stamp ⌝ }
+// The entry is of this sender and asks for this type and class of a name as long.
+fn same_fields(e: Entry, s: Sender, q: Question) -> bool
+    ensures { λ r. ⌜ r ≡ sameFields e s q ⌝ }
 {
-    octets::get32(t, layout::SLOTS_AT + layout::SLOT * i + 31)
+    if e.low != s.low {
+        return false;
+    }
+    if e.high != s.high {
+        return false;
+    }
+    if e.port != s.port {
+        return false;
+    }
+    if e.qtype != q.qtype {
+        return false;
+    }
+    if e.qclass != q.qclass {
+        return false;
+    }
+    e.len as u16 == q.len
 }
 
-// The entry at a is of this sender and this question.
-fn entry_asks(t: &[u8], a: usize, s: Sender, d: &[u8], q: Question) -> bool
-    requires { ⌜ (a + 320 ≤ length (now t)) × (q .start + q .len ≤ length (now d)) ⌝ }
+// The entry e, which is the one at a, is of this sender and this question. Its name is compared where it is stored.
+fn entry_asks(t: &[u8], a: usize, e: Entry, s: Sender, d: &[u8], q: Question) -> bool
+    requires { ⌜ (a + 320 ≤ length (now t)) × (e ≡ entryAt (now t) a) × (q .start + q .len ≤ length (now d)) ⌝ }
     ensures { λ r. ⌜ r ≡ asks (senderOf s .address) (s .port) (questionOf (now (d .entry)) q) (holdingAt (now (t .entry)) a) ⌝ }
 {
-    if !record::has_address(t, a + 1, s.high, s.low) {
-        return false;
-    }
-    if octets::get16(t, a + 17) != s.port {
-        return false;
-    }
-    if octets::get16(t, a + 35) != q.qtype {
-        return false;
-    }
-    if octets::get16(t, a + 37) != q.qclass {
-        return false;
-    }
-    let len = t[a + 39] as u16;
-    if len != q.len {
-        return false;
-    }
-    names::same_name(t, a + 40, d, q.start as usize, len as usize)
-}
-
-// Slot i has an entry of this sender and this question: a setup finds it.
-fn slot_asks(t: &[u8], i: usize, s: Sender, d: &[u8], q: Question) -> bool
-    requires { ⌜ (slotAt (i + 1) ≤ length (now t)) × (q .start + q .len ≤ length (now d)) ⌝ }
-    ensures { λ r. ⌜ r ≡ wanted (now (t .entry)) (asks (senderOf s .address) (s .port) (questionOf (now (d .entry)) q)) i ⌝ }
-{
-    let a = layout::SLOTS_AT + layout::SLOT * i;
-    if record::in_use(t[a]) {
-        return entry_asks(t, a, s, d, q);
+    if same_fields(e, s, q) {
+        return names::same_name(t, a + layout::NAME_AT, d, q.start as usize, e.len as usize);
     }
     false
 }
 
-// Slot i has an entry of this number, sender and question whose lease is the one sent: a response finds it.
+// Slot i, whose entry is e, has an entry of this sender and this question: a setup finds it, pending or established.
+fn slot_asks(t: &[u8], i: usize, e: Entry, s: Sender, d: &[u8], q: Question) -> bool
+    requires { ⌜ (slotAt (i + 1) ≤ length (now t)) × (e ≡ entryAt (now t) (slotAt i)) × (q .start + q .len ≤ length (now d)) ⌝ }
+    ensures { λ r. ⌜ r ≡ slotHas (now (t .entry)) (asks (senderOf s .address) (s .port) (questionOf (now (d .entry)) q)) i ⌝ }
+{
+    let a = layout::SLOTS_AT + layout::SLOT * i;
+    let state = e.state;
+    match state {
+        State::Free => false,
+        State::Pending => entry_asks(t, a, e, s, d, q),
+        State::Established => entry_asks(t, a, e, s, d, q),
+    }
+}
+
+// Slot i has an entry of this number, sender and question whose lease is the one sent: a response finds it, pending or established.
 fn slot_answers(
     t: &[u8],
     i: usize,
+    e: Entry,
     s: Sender,
     d: &[u8],
     q: Question,
-    number: u64,
+    number: LlqNumber,
     lease: u32,
 ) -> bool
-    requires { ⌜ (slotAt (i + 1) ≤ length (now t)) × (q .start + q .len ≤ length (now d)) ⌝ }
-    ensures { λ r. ⌜ r ≡ wanted (now (t .entry)) (answers (senderOf s) (questionOf (now (d .entry)) q) (sent number lease)) i ⌝ }
+    requires { ⌜ (slotAt (i + 1) ≤ length (now t)) × (e ≡ entryAt (now t) (slotAt i)) × (q .start + q .len ≤ length (now d)) ⌝ }
+    ensures { λ r. ⌜ r ≡ slotHas (now (t .entry)) (answers (senderOf s) (questionOf (now (d .entry)) q) (sent (number .0) lease)) i ⌝ }
 {
-    let a = layout::SLOTS_AT + layout::SLOT * i;
-    if !record::in_use(t[a]) {
+    let own = e.number;
+    if own.0 != number.0 {
         return false;
     }
-    if octets::get64(t, a + 19) != number {
+    if e.lease != lease {
         return false;
     }
-    if octets::get32(t, a + 27) != lease {
-        return false;
-    }
-    entry_asks(t, a, s, d, q)
+    slot_asks(t, i, e, s, d, q)
 }
 
 // Slot i has an established entry of this number, sender and question: a refresh finds it.
-fn slot_refreshes(t: &[u8], i: usize, s: Sender, d: &[u8], q: Question, number: u64) -> bool
-    requires { ⌜ (slotAt (i + 1) ≤ length (now t)) × (q .start + q .len ≤ length (now d)) ⌝ }
-    ensures { λ r. ⌜ r ≡ wanted (now (t .entry)) (refreshes (senderOf s) (questionOf (now (d .entry)) q) (sent number 0)) i ⌝ }
+fn slot_refreshes(
+    t: &[u8],
+    i: usize,
+    e: Entry,
+    s: Sender,
+    d: &[u8],
+    q: Question,
+    number: LlqNumber,
+) -> bool
+    requires { ⌜ (slotAt (i + 1) ≤ length (now t)) × (e ≡ entryAt (now t) (slotAt i)) × (q .start + q .len ≤ length (now d)) ⌝ }
+    ensures { λ r. ⌜ r ≡ slotHas (now (t .entry)) (refreshes (senderOf s) (questionOf (now (d .entry)) q) (sent (number .0) 0)) i ⌝ }
 {
-    let a = layout::SLOTS_AT + layout::SLOT * i;
-    if t[a] != 6 {
+    let own = e.number;
+    if own.0 != number.0 {
         return false;
     }
-    if octets::get64(t, a + 19) != number {
-        return false;
+    let state = e.state;
+    match state {
+        State::Free => false,
+        State::Pending => false,
+        State::Established => slot_asks(t, i, e, s, d, q),
     }
-    entry_asks(t, a, s, d, q)
 }
 
-// The first slot that a setup finds; n where there is none. So for the three below. The address, or the number, is looked at first: sender and question are handed on only where it agrees.
-pub fn find_asked(t: &[u8], n: usize, s: Sender, d: &[u8], q: Question) -> usize
+// The first slot that a setup finds, and its entry. So for the two below. The address, or the number, is looked at first: the entry is read, and sender and question are handed on, only where it agrees.
+pub fn find_asked(t: &[u8], n: usize, s: Sender, d: &[u8], q: Question) -> Found
     requires { ⌜ (length (now t) ≡ sizeOf n) × (q .start + q .len ≤ length (now d)) ⌝ }
-    ensures { λ r. ⌜ r ≡ findEntry (asks (senderOf s .address) (s .port) (questionOf (now (d .entry)) q)) (readTable (now (t .entry))) ⌝ }
+    ensures { λ r. ⌜ r ≡ foundAt (now (t .entry)) n (findEntry (asks (senderOf s .address) (s .port) (questionOf (now (d .entry)) q)) (readTable (now (t .entry)))) ⌝ }
 {
     let mut i = 0;
     while i < n {
         if record::has_holder(t, layout::SLOTS_AT + layout::SLOT * i, s.high, s.low) {
-            if slot_asks(t, i, s, d, q) {
-                return i;
+            let e = entry_at(t, i);
+            if slot_asks(t, i, e, s, d, q) {
+                return Found::Slot(i, e);
             }
         }
         i += 1;
     }
-    n
+    Found::Nothing
 }
 
 pub fn find_answered(
@@ -183,38 +183,47 @@ pub fn find_answered(
     s: Sender,
     d: &[u8],
     q: Question,
-    number: u64,
+    number: LlqNumber,
     lease: u32,
-) -> usize
+) -> Found
     requires { ⌜ (length (now t) ≡ sizeOf n) × (q .start + q .len ≤ length (now d)) ⌝ }
-    ensures { λ r. ⌜ r ≡ findEntry (answers (senderOf s) (questionOf (now (d .entry)) q) (sent number lease)) (readTable (now (t .entry))) ⌝ }
+    ensures { λ r. ⌜ r ≡ foundAt (now (t .entry)) n (findEntry (answers (senderOf s) (questionOf (now (d .entry)) q) (sent (number .0) lease)) (readTable (now (t .entry)))) ⌝ }
 {
     let mut i = 0;
     while i < n {
         if record::has_number(t, layout::SLOTS_AT + layout::SLOT * i, number) {
-            if slot_answers(t, i, s, d, q, number, lease) {
-                return i;
+            let e = entry_at(t, i);
+            if slot_answers(t, i, e, s, d, q, number, lease) {
+                return Found::Slot(i, e);
             }
         }
         i += 1;
     }
-    n
+    Found::Nothing
 }
 
-pub fn find_refreshed(t: &[u8], n: usize, s: Sender, d: &[u8], q: Question, number: u64) -> usize
+pub fn find_refreshed(
+    t: &[u8],
+    n: usize,
+    s: Sender,
+    d: &[u8],
+    q: Question,
+    number: LlqNumber,
+) -> Found
     requires { ⌜ (length (now t) ≡ sizeOf n) × (q .start + q .len ≤ length (now d)) ⌝ }
-    ensures { λ r. ⌜ r ≡ findEntry (refreshes (senderOf s) (questionOf (now (d .entry)) q) (sent number 0)) (readTable (now (t .entry))) ⌝ }
+    ensures { λ r. ⌜ r ≡ foundAt (now (t .entry)) n (findEntry (refreshes (senderOf s) (questionOf (now (d .entry)) q) (sent (number .0) 0)) (readTable (now (t .entry)))) ⌝ }
 {
     let mut i = 0;
     while i < n {
         if record::has_number(t, layout::SLOTS_AT + layout::SLOT * i, number) {
-            if slot_refreshes(t, i, s, d, q, number) {
-                return i;
+            let e = entry_at(t, i);
+            if slot_refreshes(t, i, e, s, d, q, number) {
+                return Found::Slot(i, e);
             }
         }
         i += 1;
     }
-    n
+    Found::Nothing
 }
 
 // The lowest free slot.
@@ -232,16 +241,29 @@ pub fn find_free(t: &[u8], n: usize) -> usize
     n
 }
 
-// Slot i has an entry that has run out.
+// The entry at a has run out.
+fn entry_run_out(t: &[u8], a: usize, running: u32) -> bool
+    requires { ⌜ a + 320 ≤ length (now t) ⌝ }
+    ensures { λ r. ⌜ r ≡ runOut (ageAt running (readEntry (now (t .entry)) a .stamp)) (readEntry (now (t .entry)) a .lease) ⌝ }
+{
+    clock::run_out(
+        running,
+        octets::get32(t, a + layout::STAMP_AT),
+        octets::get32(t, a + layout::LEASE_AT),
+    )
+}
+
+// Slot i has an entry that has run out: pending entries wait out their lease too.
 pub fn run_out(t: &[u8], i: usize, running: u32) -> bool
     requires { ⌜ slotAt (i + 1) ≤ length (now t) ⌝ }
     ensures { λ r. ⌜ r ≡ slotRunOut running (readSlot (now (t .entry)) (slotAt i)) ⌝ }
 {
     let a = layout::SLOTS_AT + layout::SLOT * i;
-    if record::in_use(t[a]) {
-        return clock::run_out(running, octets::get32(t, a + 31), octets::get32(t, a + 27));
+    match record::state_of(t[a]) {
+        State::Free => false,
+        State::Pending => entry_run_out(t, a, running),
+        State::Established => entry_run_out(t, a, running),
     }
-    false
 }
 
 // SERV-FULL: the address is at its limit, or has reached its share and the free slots are no more than the reserve.
@@ -261,9 +283,9 @@ pub fn is_full(t: &[u8], n: usize, high: u64, low: u64) -> bool
 }
 
 // An entry has the number.
-fn number_used(t: &[u8], n: usize, x: u64) -> bool
+fn number_used(t: &[u8], n: usize, x: LlqNumber) -> bool
     requires { ⌜ length (now t) ≡ sizeOf n ⌝ }
-    ensures { λ r. ⌜ r ≡ leb 1 (count (holdings (readTable (now (t .entry)))) (numbered x)) ⌝ }
+    ensures { λ r. ⌜ r ≡ leb 1 (count (holdings (readTable (now (t .entry)))) (numbered (x .0))) ⌝ }
 {
     let mut i = 0;
     while i < n {
@@ -276,29 +298,29 @@ fn number_used(t: &[u8], n: usize, x: u64) -> bool
 }
 
 // A number that cannot be granted: 0, or one in the table.
-fn not_granted(t: &[u8], n: usize, x: u64) -> bool
+fn not_granted(t: &[u8], n: usize, x: LlqNumber) -> bool
     requires { ⌜ length (now t) ≡ sizeOf n ⌝ }
-    ensures { λ r. ⌜ r ≡ (eqb x 0 || leb 1 (count (holdings (readTable (now (t .entry)))) (numbered x))) ⌝ }
+    ensures { λ r. ⌜ r ≡ (eqb (x .0) 0 || leb 1 (count (holdings (readTable (now (t .entry)))) (numbered (x .0)))) ⌝ }
 {
-    if x == 0 {
+    if x.0 == 0 {
         return true;
     }
     number_used(t, n, x)
 }
 
 // The granted number: the first of r, r + 1, r + 2 and so on, modulo 2^64, that can be.
-pub fn fresh_number(t: &[u8], n: usize, r: u64) -> u64
+pub fn fresh_number(t: &[u8], n: usize, r: u64) -> LlqNumber
     requires { ⌜ length (now t) ≡ sizeOf n ⌝ }
-    ensures { λ x. ⌜ x ≡ freshNumber (n + 2) (count (holdings (readTable (now (t .entry))))) r ⌝ }
+    ensures { λ x. ⌜ x .0 ≡ freshNumber (n + 2) (count (holdings (readTable (now (t .entry))))) r ⌝ }
 {
     let mut x = r;
     let mut k = n + 2;
     while 0 < k {
-        if !not_granted(t, n, x) {
-            return x;
+        if !not_granted(t, n, LlqNumber(x)) {
+            return LlqNumber(x);
         }
         x = std::num::wrapping_add_u64(x, 1);
         k -= 1;
     }
-    0
+    LlqNumber(0)
 }

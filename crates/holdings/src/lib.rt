@@ -1,4 +1,4 @@
-// What a table's entries come to: how many an address holds, how many there are, and what is kept back for the listed addresses.
+// What a table's entries come to: how many an address holds, how many there are, and what is reserved to the listed addresses.
 ghost use mathlib.Core.Path.{_≡_};
 ghost use Prim.Native.Nat.{_+_, _-_, _*_, _^_, _≤_, _<_};
 ghost use lib.ListN.{length};
@@ -41,7 +41,7 @@ pub fn held(t: &[u8], n: usize) -> usize
 }
 
 // What is left of a share once the entries of its address in the first n slots are taken from it.
-fn left_of(t: &[u8], n: usize, hi: u64, lo: u64, share: usize) -> usize
+fn share_less_held(t: &[u8], n: usize, hi: u64, lo: u64, share: usize) -> usize
     requires { ⌜ (1 ≤ share) × (slotAt n ≤ length (now t)) ⌝ }
     ensures { λ r. ⌜ r ≡ share - count (heldTo (now (t .entry)) n) (heldBy (hi * 2 ^ 64 + lo)) ⌝ }
 {
@@ -59,21 +59,21 @@ fn left_of(t: &[u8], n: usize, hi: u64, lo: u64, share: usize) -> usize
     k
 }
 
-// What line i keeps back: its share less what its address holds, where that is positive.
-fn kept_back(t: &[u8], n: usize, i: usize) -> usize
+// What line i reserves: its share less what its address holds, where that is positive.
+fn line_reserve(t: &[u8], n: usize, i: usize) -> usize
     requires { ⌜ (i < 16) × (slotAt n ≤ length (now t)) ⌝ }
     ensures { λ r. ⌜ (r < 256) × (r ≡ readLine (now (t .entry)) (lineAt i) .share - count (heldTo (now (t .entry)) n) (heldBy (readLine (now (t .entry)) (lineAt i) .address))) ⌝ }
 {
     let a = layout::LINES_AT + layout::LINE * i;
-    let share = t[a + 17] as usize;
+    let share = t[a + layout::SHARE_AT] as usize;
     if share == 0 {
         return 0;
     }
-    left_of(
+    share_less_held(
         t,
         n,
-        octets::get64(t, a + 1),
-        octets::get64(t, a + 9),
+        octets::get64(t, a + layout::ADDRESS_AT),
+        octets::get64(t, a + layout::LOW_AT),
         share,
     )
 }
@@ -86,7 +86,7 @@ pub fn reserve_of(t: &[u8], n: usize, m: usize) -> usize
     let mut k: usize = 0;
     let mut i: usize = 0;
     while i < m {
-        k += kept_back(t, n, i);
+        k += line_reserve(t, n, i);
         i += 1;
     }
     k

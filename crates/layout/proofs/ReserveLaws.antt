@@ -38,7 +38,7 @@ module _ (c d : Counts) (a : ℕ) (step : (x : ℕ) → d (heldBy x) ≡ c (held
       let s : eqb (l .address) (x .address) ≡ eqb (x .address) a = eqb-sym (l .address) (x .address) ∙ ap (eqb (x .address)) e in
       rw (← s, and-left (not (sameAddress l x)) (every (λ y. not (sameAddress l y)) ls) h, others l ls e (and-right (not (sameAddress l x)) (every (λ y. not (sameAddress l y)) ls) h))
 
-  -- below its share the holding is one that was kept back; from there on it is one beside the reserve
+  -- below its share the holding is one that was reserved; from there on it is one beside the reserve
   pub reserve-more : (ls : List Line) → noTwo sameAddress ls ≡ true → reserve ls d + 1 ≡ reserve ls c + bit (leb (shareOf ls a) (c (heldBy a)))
   unfolding reserve shareOf noTwo
   reserve-more [] h = rw (le-leb 0 (c (heldBy a)) (omega arith))
@@ -71,7 +71,7 @@ reserve-held b ls i u h =
     let n = rw u at (count-next b i any) in
     omega arith
 
--- before the first slot all shares are kept back
+-- before the first slot all shares are reserved
 all-shares : (ls : List Line) → shares ls ≡ reserve ls (count []) + 0
 unfolding shares reserve
 all-shares [] = refl

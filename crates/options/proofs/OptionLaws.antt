@@ -5,7 +5,7 @@ use native.Mathlib.Omega.{arith}
 use mathlib.Core.Path.{_≡_, refl, sym, ap, _∙_, subst}
 use mathlib.Core.Bool.{Bool, true, false, cond, _&&_, true≢false}
 use mathlib.Core.Logic.{_⊎_, inl, inr, _≢_}
-use borrow.Author.Tests.{eq-eqb, ne-eqb, eqb-true}
+use borrow.Author.Tests.{eq-eqb, ne-eqb}
 use mathlib.Core.List.{List, [], _∷_}
 use lib.ListN.{length, getD, set}
 use lib.Seq.{set-out}
@@ -21,17 +21,17 @@ use Rattle.model.specs.Sound.{FitsEntry}
 use Rattle.model.specs.Serve as serve
 use Rattle.model.specs.Serve.{has, isFree, findEntry, slotOf, withSlot, newEntry, granted, onSetup, serveSetup, answers, establish, onResponse, serveResponse, refreshes, renew, onRefresh, serveRefresh, ended, serveKind, serveOption, kindOfOption}
 use Rattle.model.proofs.NumberLaws.{big-lt}
-use Rattle.model.proofs.ListLaws.{index-hit, getD-past, and-left, and-right}
-use Rattle.model.proofs.HoldingLaws.{found-passes}
+use Rattle.model.proofs.ListLaws.{index-hit, getD-past}
 use Rattle.model.proofs.Meaning.{fits-entry, slots-count}
 use Rattle.model.proofs.StepLaws.{fits-establish, fits-renew}
 use Rattle.layout.specs.Shape.{inUse}
 use Rattle.layout.proofs.ReadLaws.{running-read, slot-read, read-held}
 use Rattle.entries.specs.declared.Sender.{Sender}
 use Rattle.entries.specs.declared.Entry.{Entry}
-use Rattle.entries.specs.declared.State.the-variants.{Pending}
+use Rattle.record.specs.declared.State.the-variants.{Pending}
 use Rattle.entries.specs.Reads.{addressOf, senderOf, entryAt}
 use Rattle.entries.proofs.Laws.{has-out}
+use Rattle.wire.specs.declared.LlqNumber.{LlqNumber}
 use Rattle.wire.specs.declared.LlqOption.{LlqOption}
 use Rattle.wire.specs.Records.{optionOf}
 use Rattle.table.specs.Written.{WellFormed, Written}
@@ -40,7 +40,7 @@ use Rattle.table.proofs.WriteLaws.{unwritten, slot-written, establish-bytes, re
 use Rattle.table.proofs.EntryLaws.{pending-bytes}
 use Rattle.options.specs.declared.Outcome.the-variants as out
 use Rattle.options.specs.declared.ServedOption.{ServedOption}
-use Rattle.options.specs.Outcomes.{outcomeOf, servedWith, ServedAs}
+use Rattle.options.specs.Outcomes.{servedOutcome, servedWith, ServedAs}
 
 -- an address of two halves fits its field
 pub address-fits : (high low : ℕ) → high < 2 ^ 64 → low < 2 ^ 64 → addressOf high low < 256 ^ 16
@@ -77,10 +77,6 @@ module _ (b : List ℕ) (bytes : Bytes b) (formed : WellFormed b) (n : ℕ) (siz
     pub found-slot : i < n → slotOf (readTable b) (findEntry p (readTable b)) ≡ held (readEntry b (slotAt i))
     found-slot l = ap (slotOf (readTable b)) (sym e) ∙ at-slot i l ∙ found-held l
 
-    -- the entry that was found passes the test
-    passed : i < n → p (holding (bigEndian b 5 4) (readEntry b (slotAt i))) ≡ true
-    passed l = rw (running-read b) at (found-passes p (readTable b) (readEntry b (slotAt i)) (found-slot l))
-
     pub lost-slot : n ≤ i → slotOf (readTable b) (findEntry p (readTable b)) ≡ free
     lost-slot l = ap (slotOf (readTable b)) (sym e) ∙ getD-past (readTable b .slots) i free (rw (slots-count b n size) l)
 
@@ -93,15 +89,15 @@ module _ (b : List ℕ) (bytes : Bytes b) (formed : WellFormed b) (n : ℕ) (siz
     abbrev grants : serve.Served
     grants = granted (senderOf s) r q (optionOf o) (readTable b)
 
-    module _ {number lease i : ℕ} (ns : number ≡ freshNumber (n + 2) (count (holdings (readTable b))) r) (ls : lease ≡ grantedLease (o .lease))
+    module _ {number : LlqNumber} {lease i : ℕ} (ns : number .0 ≡ freshNumber (n + 2) (count (holdings (readTable b))) r) (ls : lease ≡ grantedLease (o .lease))
         (is : i ≡ indexOf isFree (readTable b .slots)) where
-      number-is : number ≡ new .number
+      number-is : number .0 ≡ new .number
       number-is = ns ∙ ap (λ (k : ℕ). freshNumber (k + 2) (count (holdings (readTable b))) r) (sym (slots-count b n size))
 
-      told : (x : ServedOption) → x ≡ servedWith o (out.Challenge (record { 0 = number }) lease) → outcomeOf x ≡ grants .outcome
-      told x e = ap outcomeOf e ∙ rw (number-is, ls)
+      told : (x : ServedOption) → x ≡ servedWith o (out.Challenge number lease) → servedOutcome x ≡ grants .outcome
+      told x e = ap servedOutcome e ∙ rw (number-is, ls)
 
-      pub grant-none : n ≤ i → (x : ServedOption) → x ≡ servedWith o (out.Challenge (record { 0 = number }) lease) → ServedAs grants b x
+      pub grant-none : n ≤ i → (x : ServedOption) → x ≡ servedWith o (out.Challenge number lease) → ServedAs grants b x
       grant-none l x e =
           let stays : set (readTable b .slots) (indexOf isFree (readTable b .slots)) (held new) ≡ readTable b .slots =
           set-out (readTable b .slots) (indexOf isFree (readTable b .slots)) (held new) (rw (slots-count b n size, ← is) l) in
@@ -118,7 +114,7 @@ module _ (b : List ℕ) (bytes : Bytes b) (formed : WellFormed b) (n : ℕ) (siz
               high = s .high;
               low = s .low;
               port = s .port;
-              number = record { 0 = number };
+              number = number;
               lease = lease;
               stamp = stamp;
               qtype = q .qtype;
@@ -130,7 +126,7 @@ module _ (b : List ℕ) (bytes : Bytes b) (formed : WellFormed b) (n : ℕ) (siz
         new-is = rw (number-is, ls, ss ∙ sym (running-read b))
 
         pub grant-written : i < n → FitsEntry (storedAs false made (q .name)) → (y : List ℕ) → y ≡ splice (slotAt i) 320 (entryBytes made (q .name)) b
-            → (x : ServedOption) → x ≡ servedWith o (out.Challenge (record { 0 = number }) lease) → ServedAs grants y x
+            → (x : ServedOption) → x ≡ servedWith o (out.Challenge number lease) → ServedAs grants y x
         grant-written l f y w x e =
             let v : y ≡ splice (slotAt i) 320 (slotBytes (held new)) b =
             w ∙ ap (λ (z : List ℕ). splice (slotAt i) 320 z b) (pending-bytes made (q .name) refl ∙ ap (λ (z : table.Entry). slotBytes (held z)) new-is) in
@@ -149,7 +145,7 @@ module _ (b : List ℕ) (bytes : Bytes b) (formed : WellFormed b) (n : ℕ) (siz
       unfolding serveSetup onSetup entryAt readEntry
       setup-found l e h x g =
           served-by (ap (onSetup (senderOf s) r q (optionOf o) (readTable b)) (found-slot (asks (senderOf s .address) (s .port) q) is l))
-          (record { table = unwritten b formed; outcome = ap outcomeOf g ∙ rw h })
+          (record { table = unwritten b formed; outcome = ap servedOutcome g ∙ rw h })
 
       lost : n ≤ i → serveSetup (senderOf s) r q (optionOf o) (readTable b)
           ≡ cond (full n (readTable b .roster) (count (holdings (readTable b))) (senderOf s .address))
@@ -162,7 +158,7 @@ module _ (b : List ℕ) (bytes : Bytes b) (formed : WellFormed b) (n : ℕ) (siz
 
       pub setup-full : n ≤ i → full n (readTable b .roster) (count (holdings (readTable b))) (senderOf s .address) ≡ true → (x : ServedOption)
           → x ≡ servedWith o out.Full → ServedAs (serveSetup (senderOf s) r q (optionOf o) (readTable b)) b x
-      setup-full l f x g = served-by (lost l ∙ rw f) (record { table = unwritten b formed; outcome = ap outcomeOf g })
+      setup-full l f x g = served-by (lost l ∙ rw f) (record { table = unwritten b formed; outcome = ap servedOutcome g })
 
       pub setup-grant : n ≤ i → full n (readTable b .roster) (count (holdings (readTable b))) (senderOf s .address) ≡ false → (y : List ℕ) (x : ServedOption)
           → ServedAs grants y x → ServedAs (serveSetup (senderOf s) r q (optionOf o) (readTable b)) y x
@@ -176,28 +172,22 @@ module _ (b : List ℕ) (bytes : Bytes b) (formed : WellFormed b) (n : ℕ) (siz
       unfolding serveResponse onResponse
       response-none l x g =
           served-by (ap (onResponse (optionOf o) (readTable b) (findEntry (answers (senderOf s) q (optionOf o)) (readTable b)))
-          (lost-slot (answers (senderOf s) q (optionOf o)) is l)) (record { table = unwritten b formed; outcome = ap outcomeOf g })
+          (lost-slot (answers (senderOf s) q (optionOf o)) is l)) (record { table = unwritten b formed; outcome = ap servedOutcome g })
 
-      pub response-found : i < n → (left : ℕ) → left ≡ o .lease - ageAt (bigEndian b 5 4) (entryAt b (slotAt i) .stamp) → (y : List ℕ)
-          → y ≡ splice (slotAt i) 1 (bytesOf 1 6) b → (x : ServedOption) → x ≡ servedWith o (out.Established (o .number) left)
+      pub response-found : i < n → (e : Entry) → e ≡ entryAt b (slotAt i) → (left : ℕ) → left ≡ e .lease - ageAt (bigEndian b 5 4) (e .stamp) → (y : List ℕ)
+          → y ≡ splice (slotAt i) 1 (bytesOf 1 6) b → (x : ServedOption) → x ≡ servedWith o (out.Established (e .number) left)
           → ServedAs (serveResponse (senderOf s) q (optionOf o) (readTable b)) y x
       unfolding serveResponse onResponse entryAt readEntry
-      response-found l left k y w x g =
+      response-found l e h left k y w x g =
           let p = answers (senderOf s) q (optionOf o) in
           let d = readEntry b (slotAt i) in
-          let t = passed p is l in
-          let a = asks (senderOf s .address) (s .port) q (holding (bigEndian b 5 4) d) in
-          let u = eqb (d .number) (o .number .0) in
-          let v = eqb (d .lease) (o .lease) in
-          let number : d .number ≡ o .number .0 = eqb-true (d .number) (o .number .0) (and-left u a (and-left (u && a) v t)) in
-          let lease : d .lease ≡ o .lease = eqb-true (d .lease) (o .lease) (and-right (u && a) v t) in
           let v = w ∙ establish-bytes b bytes formed i (inside l) d (found-held p is l) in
           let g′ : FitsEntry (establish d) = fits-establish d (fits-entry b bytes (slotAt i)) in
           served-by (ap (onResponse (optionOf o) (readTable b) (findEntry p (readTable b))) (found-slot p is l))
           (record {
             table = subst (λ (j : ℕ). Written y (withSlot (readTable b) j (held (establish d)))) is
                 (slot-written b bytes formed i (held (establish d)) (inside l) g′ y v);
-            outcome = ap outcomeOf g ∙ rw (k, number, lease, running-read b);
+            outcome = ap servedOutcome g ∙ rw (k, h, running-read b);
           })
 
     -- REFRESH
@@ -208,17 +198,11 @@ module _ (b : List ℕ) (bytes : Bytes b) (formed : WellFormed b) (n : ℕ) (siz
       unfolding serveRefresh onRefresh
       refresh-none l x g =
           served-by (ap (onRefresh (optionOf o) (readTable b) (findEntry (refreshes (senderOf s) q (optionOf o)) (readTable b)))
-          (lost-slot (refreshes (senderOf s) q (optionOf o)) is l)) (record { table = unwritten b formed; outcome = ap outcomeOf g })
+          (lost-slot (refreshes (senderOf s) q (optionOf o)) is l)) (record { table = unwritten b formed; outcome = ap servedOutcome g })
 
-      module _ (l : i < n) where
+      module _ (l : i < n) (e : Entry) (h : e ≡ entryAt b (slotAt i)) where
         abbrev d : table.Entry
         d = readEntry b (slotAt i)
-
-        number : d .number ≡ o .number .0
-        number =
-            let t = passed (refreshes (senderOf s) q (optionOf o)) is l in
-            eqb-true (d .number) (o .number .0)
-            (and-left (eqb (d .number) (o .number .0)) (asks (senderOf s .address) (s .port) q (holding (bigEndian b 5 4) d)) (and-right (d .established) _ t))
 
         refreshed : serveRefresh (senderOf s) q (optionOf o) (readTable b)
             ≡ onRefresh (optionOf o) (readTable b) (findEntry (refreshes (senderOf s) q (optionOf o)) (readTable b)) (held d)
@@ -241,18 +225,18 @@ module _ (b : List ℕ) (bytes : Bytes b) (formed : WellFormed b) (n : ℕ) (siz
         on-renew z j = rw (ne-eqb (o .lease) 0 z)
 
         pub refresh-end : o .lease ≡ 0 → (y : List ℕ) → y ≡ splice (slotAt i) 320 (slotBytes ended) b → (x : ServedOption)
-            → x ≡ servedWith o (out.Ended (o .number)) → ServedAs (serveRefresh (senderOf s) q (optionOf o) (readTable b)) y x
+            → x ≡ servedWith o (out.Ended (e .number)) → ServedAs (serveRefresh (senderOf s) q (optionOf o) (readTable b)) y x
         unfolding entryAt readEntry
         refresh-end z y w x g =
             served-by (refreshed ∙ on-end z _)
             (record {
               table = subst (λ (j : ℕ). Written y (withSlot (readTable b) j ended)) is (slot-written b bytes formed i ended (inside l) tt y w);
-              outcome = ap outcomeOf g ∙ rw number;
+              outcome = ap servedOutcome g ∙ rw h;
             })
 
         pub refresh-renew : o .lease ≢ 0 → (lease running : ℕ) → lease ≡ grantedLease (o .lease) → running ≡ bigEndian b 5 4 → (y : List ℕ)
             → y ≡ splice (slotAt i + 27) 8 (encode ((4, lease) ∷ (4, running) ∷ [])) b → (x : ServedOption)
-            → x ≡ servedWith o (out.Renewed (o .number) lease) → ServedAs (serveRefresh (senderOf s) q (optionOf o) (readTable b)) y x
+            → x ≡ servedWith o (out.Renewed (e .number) lease) → ServedAs (serveRefresh (senderOf s) q (optionOf o) (readTable b)) y x
         unfolding entryAt readEntry
         refresh-renew z lease running k r y w x g =
             let p = refreshes (senderOf s) q (optionOf o) in
@@ -265,7 +249,7 @@ module _ (b : List ℕ) (bytes : Bytes b) (formed : WellFormed b) (n : ℕ) (siz
             served-by (refreshed ∙ on-renew z _)
             (record {
               table = subst (λ (j : ℕ). Written y (withSlot (readTable b) j (held (renew (readTable b .clock .running) (o .lease) d)))) is w′;
-              outcome = ap outcomeOf g ∙ rw (number, k);
+              outcome = ap servedOutcome g ∙ rw (h, k);
             })
 
 -- ONE OPTION, BY ITS KIND
@@ -279,9 +263,9 @@ pub malformed-as : (s : serve.Sender) (r : ℕ) (q : query.Question) (o : LlqOpt
     → ServedAs (serveOption s r q (optionOf o) (readTable b)) b x
 unfolding serveKind
 malformed-as s r q o b formed x (inl h) =
-    served-by (by-kind s r q o (readTable b) serve.badVersion (h .0)) (record { table = unwritten b formed; outcome = ap outcomeOf (h .1) })
+    served-by (by-kind s r q o (readTable b) serve.badVersion (h .0)) (record { table = unwritten b formed; outcome = ap servedOutcome (h .1) })
 malformed-as s r q o b formed x (inr h) =
-    served-by (by-kind s r q o (readTable b) serve.badFormat (h .0)) (record { table = unwritten b formed; outcome = ap outcomeOf (h .1) })
+    served-by (by-kind s r q o (readTable b) serve.badFormat (h .0)) (record { table = unwritten b formed; outcome = ap servedOutcome (h .1) })
 
 pub setup-as : (s : serve.Sender) (r : ℕ) (q : query.Question) (o : LlqOption) (b y : List ℕ) (x : ServedOption) → serve.setup ≡ kindOfOption (optionOf o)
     → ServedAs (serveSetup s r q (optionOf o) (readTable b)) y x → ServedAs (serveOption s r q (optionOf o) (readTable b)) y x

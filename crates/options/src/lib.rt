@@ -1,7 +1,8 @@
 // One option served on the table as it stands: setup, response, refresh.
 use entries::Entry;
+use entries::Found;
 use entries::Sender;
-use entries::State;
+use record::State;
 use wire::LlqNumber;
 use wire::LlqOption;
 use wire::Question;
@@ -14,7 +15,7 @@ ghost use Rattle.model.specs.Serve.{kindOfOption, granted, serveSetup, serveRes
 ghost use Rattle.wire.specs.Records.{questionOf, optionOf};
 ghost use Rattle.entries.specs.Reads.{senderOf};
 ghost use Rattle.table.specs.Written.{WellFormed};
-ghost use Rattle.options.specs.Outcomes.{kindIn, errorOf, leaseOf, repeatedNumber, outcomeOf, servedWith, ServedAs};
+ghost use Rattle.options.specs.Outcomes.{kindIn, outcomeError, outcomeLease, repeatedNumber, servedOutcome, servedWith, ServedAs};
 
 // What an option came to.
 pub enum Outcome {
@@ -122,14 +123,14 @@ fn grant(
     let lease = granted_lease(o.lease);
     let j = entries::find_free(t, n);
     if j >= n {
-        return served(o, Outcome::Challenge(LlqNumber(number), lease));
+        return served(o, Outcome::Challenge(number, lease));
     }
     let e = Entry {
         state: State::Pending,
         high: s.high,
         low: s.low,
         port: s.port,
-        number: LlqNumber(number),
+        number,
         lease: lease,
         stamp: octets::get32(t, layout::RUNNING_AT),
         qtype: q.qtype,
@@ -137,7 +138,7 @@ fn grant(
         len: q.len as u8,
     };
     table::put_entry(t, j, e, d, q.start as usize);
-    served(o, Outcome::Challenge(LlqNumber(number), lease))
+    served(o, Outcome::Challenge(number, lease))
 }
 
 fn serve_setup(
@@ -152,16 +153,18 @@ fn serve_setup(
     requires { ⌜ WellFormed (now t) × (length (now t) ≡ sizeOf n) × (q .start + q .len ≤ length (now d)) × (q .len ≤ 255) ⌝ }
     ensures { λ x. ⌜ ServedAs (serveSetup (senderOf s) r (questionOf (now (d .entry)) q) (optionOf o) (readTable (now (t .entry)))) (now (t .exit)) x ⌝ }
 {
-    let i = entries::find_asked(t, n, s, d, q);
-    if i < n {
-        let e = entries::entry_at(t, i);
-        let number = e.number;
-        return served(o, Outcome::Challenge(number, e.lease));
+    match entries::find_asked(t, n, s, d, q) {
+        Found::Slot(_, e) => {
+            let number = e.number;
+            served(o, Outcome::Challenge(number, e.lease))
+        }
+        Found::Nothing => {
+            if entries::is_full(t, n, s.high, s.low) {
+                return served(o, Outcome::Full);
+            }
+            grant(t, n, s, r, d, q, o)
+        }
     }
-    if entries::is_full(t, n, s.high, s.low) {
-        return served(o, Outcome::Full);
-    }
-    grant(t, n, s, r, d, q, o)
 }
 
 fn serve_response(
@@ -176,14 +179,15 @@ fn serve_response(
     ensures { λ x. ⌜ ServedAs (serveResponse (senderOf s) (questionOf (now (d .entry)) q) (optionOf o) (readTable (now (t .entry)))) (now (t .exit)) x ⌝ }
 {
     let asked = o.number;
-    let i = entries::find_answered(t, n, s, d, q, asked.0, o.lease);
-    if i >= n {
-        return served(o, Outcome::NoSuchLlq(LlqNumber(0)));
+    match entries::find_answered(t, n, s, d, q, asked, o.lease) {
+        Found::Slot(i, e) => {
+            let number = e.number;
+            let age = clock::age(octets::get32(t, layout::RUNNING_AT), e.stamp);
+            table::establish_at(t, i);
+            served(o, Outcome::Established(number, less(e.lease, age)))
+        }
+        Found::Nothing => served(o, Outcome::NoSuchLlq(LlqNumber(0))),
     }
-    let stamp = entries::stamp_at(t, i);
-    let age = clock::age(octets::get32(t, layout::RUNNING_AT), stamp);
-    table::establish_at(t, i);
-    served(o, Outcome::Established(asked, less(o.lease, age)))
 }
 
 fn serve_refresh(
@@ -198,17 +202,19 @@ fn serve_refresh(
     ensures { λ x. ⌜ ServedAs (serveRefresh (senderOf s) (questionOf (now (d .entry)) q) (optionOf o) (readTable (now (t .entry)))) (now (t .exit)) x ⌝ }
 {
     let asked = o.number;
-    let i = entries::find_refreshed(t, n, s, d, q, asked.0);
-    if i >= n {
-        return served(o, Outcome::NoSuchLlq(asked));
+    match entries::find_refreshed(t, n, s, d, q, asked) {
+        Found::Slot(i, e) => {
+            let number = e.number;
+            if o.lease == 0 {
+                table::end_entry(t, i);
+                return served(o, Outcome::Ended(number));
+            }
+            let lease = granted_lease(o.lease);
+            table::renew_at(t, i, lease, octets::get32(t, layout::RUNNING_AT));
+            served(o, Outcome::Renewed(number, lease))
+        }
+        Found::Nothing => served(o, Outcome::NoSuchLlq(asked)),
     }
-    if o.lease == 0 {
-        table::end_entry(t, i);
-        return served(o, Outcome::Ended(asked));
-    }
-    let lease = granted_lease(o.lease);
-    table::renew_at(t, i, lease, octets::get32(t, layout::RUNNING_AT));
-    served(o, Outcome::Renewed(asked, lease))
 }
 
 // One option, by its kind, on its question in the datagram d, on the table as it stands.
@@ -237,7 +243,7 @@ pub fn serve_option(
 // What the reply says: document 01's error, number and lease.
 
 pub fn error_of(x: Outcome) -> u16
-    ensures { λ r. ⌜ r ≡ errorOf x ⌝ }
+    ensures { λ r. ⌜ r ≡ outcomeError x ⌝ }
 {
     match x {
         Outcome::Full => 1,
@@ -252,7 +258,7 @@ pub fn error_of(x: Outcome) -> u16
 }
 
 pub fn lease_of(x: Outcome) -> u32
-    ensures { λ r. ⌜ r ≡ leaseOf x ⌝ }
+    ensures { λ r. ⌜ r ≡ outcomeLease x ⌝ }
 {
     match x {
         Outcome::Full => 60,
@@ -277,7 +283,7 @@ fn repeated(opcode: u16, number: LlqNumber) -> LlqNumber
 }
 
 pub fn number_of(s: ServedOption) -> LlqNumber
-    ensures { λ r. ⌜ r .0 ≡ outcomeOf s .number ⌝ }
+    ensures { λ r. ⌜ r .0 ≡ servedOutcome s .number ⌝ }
 {
     let x = s.outcome;
     let sent = s.number;

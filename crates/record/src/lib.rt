@@ -11,15 +11,49 @@ ghost use Rattle.model.specs.Sound.{validLine, validEntry};
 ghost use Rattle.layout.specs.Shape.{inUse, slotShape, unusedShape};
 ghost use Rattle.layout.specs.Held.{holdingAt};
 ghost use Rattle.record.specs.Asked.{sameAsked};
+ghost use Rattle.record.specs.State.{stateOf, kindByte};
+use wire::LlqNumber;
+
+// "Each slot is free, pending or established."
+pub enum State {
+    Free,
+    Pending,
+    Established,
+}
+
+// What a slot of this kind is.
+pub fn state_of(kind: u8) -> State
+    ensures { λ r. ⌜ r ≡ stateOf kind ⌝ }
+{
+    if kind == layout::PENDING_KIND {
+        return State::Pending;
+    }
+    if kind == layout::ESTABLISHED_KIND {
+        return State::Established;
+    }
+    State::Free
+}
+
+// The kind of a slot in this state.
+pub fn kind_byte(state: State) -> u8
+    ensures { λ r. ⌜ r ≡ kindByte state ⌝ }
+{
+    match state {
+        State::Free => layout::FREE_KIND,
+        State::Pending => layout::PENDING_KIND,
+        State::Established => layout::ESTABLISHED_KIND,
+    }
+}
 
 // The kind is an entry's, pending or established.
 pub fn in_use(kind: u8) -> bool
     ensures { λ r. ⌜ r ≡ inUse kind ⌝ }
 {
-    if kind == 5 {
-        return true;
+    match state_of(kind) {
+        State::Free => false,
+        State::Pending => true,
+        State::Established => true,
     }
-    kind == 6
 }
 
 // The 16 bytes at a are the address of these halves. The low half first: most addresses differ there.
@@ -41,11 +75,11 @@ pub fn slot_shape(t: &[u8], a: usize) -> bool
     let kind = t[a];
     let mut from: usize = 1;
     if in_use(kind) {
-        from = 40 + t[a + 39] as usize;
-    } else if kind != 4 {
+        from = layout::NAME_AT + t[a + layout::NAME_LENGTH_AT] as usize;
+    } else if kind != layout::FREE_KIND {
         return false;
     }
-    octets::zeros(t, a + from, 320 - from)
+    octets::zeros(t, a + from, layout::SLOT - from)
 }
 
 // 2 * 2^56: the kind 2 and seven zeros.
@@ -70,8 +104,8 @@ pub fn valid_line(t: &[u8], a: usize) -> bool
     requires { ⌜ a + 19 ≤ length (now t) ⌝ }
     ensures { λ r. ⌜ r ≡ validLine (readLine (now (t .entry)) a) ⌝ }
 {
-    let share = t[a + 17];
-    let limit = t[a + 18];
+    let share = t[a + layout::SHARE_AT];
+    let limit = t[a + layout::LIMIT_AT];
     if share > limit {
         return false;
     }
@@ -86,29 +120,37 @@ pub fn valid_entry(t: &[u8], a: usize, running: u32) -> bool
     requires { ⌜ (a + 320 ≤ length (now t)) × (running ≡ bigEndian (now t) 5 4) ⌝ }
     ensures { λ r. ⌜ r ≡ validEntry (holdingAt (now (t .entry)) a) ⌝ }
 {
-    if octets::get64(t, a + 19) == 0 {
+    if octets::get64(t, a + layout::NUMBER_AT) == 0 {
         return false;
     }
-    let lease = octets::get32(t, a + 27);
+    let lease = octets::get32(t, a + layout::LEASE_AT);
     if lease < 60 {
         return false;
     }
     if lease > 7200 {
         return false;
     }
-    if clock::age(running, octets::get32(t, a + 31)) >= lease {
+    if clock::age(running, octets::get32(t, a + layout::STAMP_AT)) >= lease {
         return false;
     }
-    let len = t[a + 39] as usize;
-    names::lower_name(t, a + 40, len)
+    let len = t[a + layout::NAME_LENGTH_AT] as usize;
+    names::lower_name(t, a + layout::NAME_AT, len)
+}
+
+// The LLQ number of the entry at a.
+pub fn number_at(t: &[u8], a: usize) -> LlqNumber
+    requires { ⌜ a + 320 ≤ length (now t) ⌝ }
+    ensures { λ r. ⌜ r .0 ≡ bigEndian (now (t .entry)) (a + 19) 8 ⌝ }
+{
+    LlqNumber(octets::get64(t, a + layout::NUMBER_AT))
 }
 
 // The slot at a has an entry of the number. The kind, which most slots share, last.
-pub fn has_number(t: &[u8], a: usize, number: u64) -> bool
+pub fn has_number(t: &[u8], a: usize, number: LlqNumber) -> bool
     requires { ⌜ a + 320 ≤ length (now t) ⌝ }
-    ensures { λ r. ⌜ r ≡ (inUse (getD (now (t .entry)) a 0) && numbered number (holdingAt (now (t .entry)) a)) ⌝ }
+    ensures { λ r. ⌜ r ≡ (inUse (getD (now (t .entry)) a 0) && numbered (number .0) (holdingAt (now (t .entry)) a)) ⌝ }
 {
-    if octets::get64(t, a + 19) == number {
+    if octets::get64(t, a + layout::NUMBER_AT) == number.0 {
         return in_use(t[a]);
     }
     false
@@ -119,7 +161,7 @@ pub fn has_holder(t: &[u8], a: usize, hi: u64, lo: u64) -> bool
     requires { ⌜ a + 320 ≤ length (now t) ⌝ }
     ensures { λ r. ⌜ r ≡ (inUse (getD (now (t .entry)) a 0) && heldBy (hi * 2 ^ 64 + lo) (holdingAt (now (t .entry)) a)) ⌝ }
 {
-    if has_address(t, a + 1, hi, lo) {
+    if has_address(t, a + layout::ADDRESS_AT, hi, lo) {
         return in_use(t[a]);
     }
     false
@@ -130,15 +172,15 @@ pub fn same_asked(t: &[u8], a: usize, c: usize) -> bool
     requires { ⌜ (a + 320 ≤ length (now t)) × (c + 320 ≤ length (now t)) ⌝ }
     ensures { λ r. ⌜ r ≡ sameAsked (holdingAt (now (t .entry)) a) (holdingAt (now (t .entry)) c) ⌝ }
 {
-    if octets::get16(t, a + 17) != octets::get16(t, c + 17) {
+    if octets::get16(t, a + layout::PORT_AT) != octets::get16(t, c + layout::PORT_AT) {
         return false;
     }
-    if octets::get32(t, a + 35) != octets::get32(t, c + 35) {
+    if octets::get32(t, a + layout::TYPE_AT) != octets::get32(t, c + layout::TYPE_AT) {
         return false;
     }
-    let len = t[a + 39];
-    if len != t[c + 39] {
+    let len = t[a + layout::NAME_LENGTH_AT];
+    if len != t[c + layout::NAME_LENGTH_AT] {
         return false;
     }
-    octets::equal(t, a + 40, t, c + 40, len as usize)
+    octets::equal(t, a + layout::NAME_AT, t, c + layout::NAME_AT, len as usize)
 }

@@ -16,8 +16,8 @@ pub fn listed_lines(t: &[u8]) -> usize
     ensures { λ r. ⌜ (r ≡ listed (now (t .entry)) 16) × (r ≤ 16) ⌝ }
 {
     let mut i: usize = 0;
-    while i < 16 {
-        if t[layout::LINES_AT + layout::LINE * i] != 3 {
+    while i < layout::LINES {
+        if t[layout::LINES_AT + layout::LINE * i] != layout::LISTED_KIND {
             return i;
         }
         i += 1;
@@ -30,7 +30,7 @@ pub fn unused_from(t: &[u8], m: usize) -> bool
     requires { ⌜ (m ≤ 16) × (313 ≤ length (now t)) ⌝ }
     ensures { λ r. ⌜ r ≡ unusedFrom (now (t .entry)) m ⌝ }
 {
-    let n = 16 - m;
+    let n = layout::LINES - m;
     let a = layout::LINES_AT + layout::LINE * m;
     let mut i: usize = 0;
     while i < n {
@@ -49,7 +49,7 @@ pub fn kinds_listed(t: &[u8], m: usize) -> bool
 {
     let mut i: usize = 0;
     while i < m {
-        if t[layout::LINE * i] != 3 {
+        if t[layout::LINE * i] != layout::LISTED_KIND {
             return false;
         }
         i += 1;
@@ -78,11 +78,11 @@ fn line_apart(t: &[u8], base: usize, i: usize) -> bool
     ensures { λ r. ⌜ r ≡ every (λ l. not (sameAddress l (readLine (now (t .entry)) (base + 19 * i)))) (linesFrom (now (t .entry)) base i) ⌝ }
 {
     let a = base + layout::LINE * i;
-    let hi = octets::get64(t, a + 1);
-    let lo = octets::get64(t, a + 9);
+    let hi = octets::get64(t, a + layout::ADDRESS_AT);
+    let lo = octets::get64(t, a + layout::LOW_AT);
     let mut j: usize = 0;
     while j < i {
-        if record::has_address(t, base + layout::LINE * j + 1, hi, lo) {
+        if record::has_address(t, base + layout::LINE * j + layout::ADDRESS_AT, hi, lo) {
             return false;
         }
         j += 1;
@@ -119,7 +119,7 @@ pub fn share_sum(t: &[u8], base: usize, m: usize) -> usize
     let mut s: usize = 0;
     let mut i: usize = 0;
     while i < m {
-        s += wide(t[base + layout::LINE * i + 17]);
+        s += wide(t[base + layout::LINE * i + layout::SHARE_AT]);
         i += 1;
     }
     s
@@ -155,8 +155,8 @@ pub fn limit_of(t: &[u8], m: usize, hi: u64, lo: u64) -> usize
     let mut i: usize = 0;
     while i < m {
         let a = layout::LINES_AT + layout::LINE * i;
-        if record::has_address(t, a + 1, hi, lo) {
-            return wide(t[a + 18]);
+        if record::has_address(t, a + layout::ADDRESS_AT, hi, lo) {
+            return wide(t[a + layout::LIMIT_AT]);
         }
         i += 1;
     }
@@ -171,8 +171,8 @@ pub fn share_of(t: &[u8], m: usize, hi: u64, lo: u64) -> usize
     let mut i: usize = 0;
     while i < m {
         let a = layout::LINES_AT + layout::LINE * i;
-        if record::has_address(t, a + 1, hi, lo) {
-            return wide(t[a + 17]);
+        if record::has_address(t, a + layout::ADDRESS_AT, hi, lo) {
+            return wide(t[a + layout::SHARE_AT]);
         }
         i += 1;
     }

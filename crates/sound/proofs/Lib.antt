@@ -1,4 +1,4 @@
-pub mod FitLaws
+pub mod HolderLaws
 pub mod PairLaws
 pub mod FirstLaws
-pub mod TakeLaws
+pub mod ShareLaws

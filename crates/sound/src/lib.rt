@@ -14,7 +14,7 @@ ghost use Rattle.model.specs.Sound.{validLine, validEntry, sameNumber, sameAddr
 ghost use Rattle.model.specs.Calls.{goodRoster};
 ghost use Rattle.layout.specs.Shape.{all, slotShape, linesTo, tableShape};
 ghost use Rattle.layout.specs.Held.{holdingAt, heldTo, okAt};
-ghost use Rattle.sound.specs.Fits.{fits, fitted, takenBy, takes, together};
+ghost use Rattle.sound.specs.Holders.{holderSound, holdersSound, beyondShare, entryBeyondShare, entriesSound};
 
 // As many slots are few: all pairs of their entries are compared.
 const FEW: usize = 8;
@@ -55,7 +55,7 @@ fn records_good(t: &[u8], n: usize, m: usize) -> bool
     requires { ⌜ (n ≤ 64) × (m ≤ 16) × (slotAt n ≤ length (now t)) × (m ≡ listed (now t) 16) ⌝ }
     ensures { λ r. ⌜ r ≡ (tableShape (now (t .entry)) n && every validEntry (heldTo (now (t .entry)) n)) ⌝ }
 {
-    if t[0] != 1 {
+    if t[0] != layout::CLOCK_KIND {
         return false;
     }
     if !roster::unused_from(t, m) {
@@ -83,7 +83,7 @@ fn number_apart(t: &[u8], from: usize, i: usize, c: usize) -> bool
     if from >= i {
         return true;
     }
-    let number = octets::get64(t, c + 19);
+    let number = record::number_at(t, c);
     let mut j = from;
     while j < i {
         if record::has_number(t, layout::SLOTS_AT + layout::SLOT * j, number) {
@@ -95,15 +95,15 @@ fn number_apart(t: &[u8], from: usize, i: usize, c: usize) -> bool
 }
 
 // The entry at c, with those below slot i: none has its address and asks the same, and its address is within its limit. Those from slot `from` on are looked at: of those below none has its address.
-fn holder_fits(t: &[u8], from: usize, i: usize, c: usize, m: usize) -> bool
+fn holder_sound(t: &[u8], from: usize, i: usize, c: usize, m: usize) -> bool
     requires { ⌜ (from ≤ i) × (i ≤ 64) × (m ≤ 16) × (slotAt i ≤ length (now t)) × (c + 320 ≤ length (now t)) × (every validLine (linesTo (now t) m) ≡ true) × (every (λ h. not (heldBy (holdingAt (now t) c .address) h)) (heldTo (now t) from) ≡ true) ⌝ }
-    ensures { λ r. ⌜ r ≡ fits (now (t .entry)) (linesTo (now (t .entry)) m) i (holdingAt (now (t .entry)) c) ⌝ }
+    ensures { λ r. ⌜ r ≡ holderSound (now (t .entry)) (linesTo (now (t .entry)) m) i (holdingAt (now (t .entry)) c) ⌝ }
 {
     if from >= i {
         return true;
     }
-    let hi = octets::get64(t, c + 1);
-    let lo = octets::get64(t, c + 9);
+    let hi = octets::get64(t, c + layout::ADDRESS_AT);
+    let lo = octets::get64(t, c + layout::LOW_AT);
     let mut k: usize = 0;
     let mut j = from;
     while j < i {
@@ -140,7 +140,7 @@ fn numbers_apart(t: &[u8], n: usize) -> bool
     while i < n {
         let a = layout::SLOTS_AT + layout::SLOT * i;
         if record::in_use(t[a]) {
-            let x = t[a + 26] as usize;
+            let x = t[a + layout::NUMBER_LAST] as usize;
             let p = earlier(first[x], i);
             if !number_apart(t, p, i, a) {
                 return false;
@@ -153,18 +153,18 @@ fn numbers_apart(t: &[u8], n: usize) -> bool
 }
 
 // No two entries have one address and question, and no address holds more than its limit. first[y] is likewise the first slot whose address ends in the byte y.
-fn holders_fit(t: &[u8], n: usize, m: usize) -> bool
+fn holders_sound(t: &[u8], n: usize, m: usize) -> bool
     requires { ⌜ (n ≤ 64) × (m ≤ 16) × (slotAt n ≤ length (now t)) × (every validLine (linesTo (now t) m) ≡ true) ⌝ }
-    ensures { λ r. ⌜ r ≡ fitted (now (t .entry)) (linesTo (now (t .entry)) m) n ⌝ }
+    ensures { λ r. ⌜ r ≡ holdersSound (now (t .entry)) (linesTo (now (t .entry)) m) n ⌝ }
 {
     let mut first = [64u8; 256];
     let mut i: usize = 0;
     while i < n {
         let a = layout::SLOTS_AT + layout::SLOT * i;
         if record::in_use(t[a]) {
-            let y = t[a + 16] as usize;
+            let y = t[a + layout::ADDRESS_LAST] as usize;
             let p = earlier(first[y], i);
-            if !holder_fits(t, p, i, a, m) {
+            if !holder_sound(t, p, i, a, m) {
                 return false;
             }
             first[y] = p as u8;
@@ -174,10 +174,10 @@ fn holders_fit(t: &[u8], n: usize, m: usize) -> bool
     true
 }
 
-// What one entry more takes of the slots that no share keeps for its address, which holds k: none below its share, one from there on; 2 at its limit.
-fn taken_by(share: u8, limit: u8, k: usize) -> usize
+// How many slots beyond its share one entry more takes for an address that holds k: none below the share, one from there on; 2, which is too many, at its limit.
+fn beyond_share(share: u8, limit: u8, k: usize) -> usize
     requires { ⌜ k ≤ 64 ⌝ }
-    ensures { λ r. ⌜ r ≡ takenBy share limit k ⌝ }
+    ensures { λ r. ⌜ r ≡ beyondShare share limit k ⌝ }
 {
     if k < share as usize {
         return 0;
@@ -189,29 +189,29 @@ fn taken_by(share: u8, limit: u8, k: usize) -> usize
 }
 
 // The same by the first m lines.
-fn taken(t: &[u8], m: usize, k: usize, hi: u64, lo: u64) -> usize
+fn address_beyond_share(t: &[u8], m: usize, k: usize, hi: u64, lo: u64) -> usize
     requires { ⌜ (k ≤ 64) × (lineAt m ≤ length (now t)) ⌝ }
-    ensures { λ r. ⌜ r ≡ takenBy (shareOf (linesTo (now (t .entry)) m) (hi * 2 ^ 64 + lo)) (limitOf (linesTo (now (t .entry)) m) (hi * 2 ^ 64 + lo)) k ⌝ }
+    ensures { λ r. ⌜ r ≡ beyondShare (shareOf (linesTo (now (t .entry)) m) (hi * 2 ^ 64 + lo)) (limitOf (linesTo (now (t .entry)) m) (hi * 2 ^ 64 + lo)) k ⌝ }
 {
     let mut i: usize = 0;
     while i < m {
         let a = layout::LINES_AT + layout::LINE * i;
-        if record::has_address(t, a + 1, hi, lo) {
-            return taken_by(t[a + 17], t[a + 18], k);
+        if record::has_address(t, a + layout::ADDRESS_AT, hi, lo) {
+            return beyond_share(t[a + layout::SHARE_AT], t[a + layout::LIMIT_AT], k);
         }
         i += 1;
     }
-    taken_by(0, 4, k)
+    beyond_share(0, 4, k)
 }
 
-// What the entry at c takes, with those below slot i: number and holder are looked at in one walk.
-fn entry_takes(t: &[u8], i: usize, c: usize, m: usize) -> usize
+// The same of the entry at c, with those below slot i; 2 also where one of them has its number, or its address and question: number and holder are looked at in one walk.
+fn entry_beyond_share(t: &[u8], i: usize, c: usize, m: usize) -> usize
     requires { ⌜ (i ≤ 64) × (m ≤ 16) × (slotAt i ≤ length (now t)) × (c + 320 ≤ length (now t)) ⌝ }
-    ensures { λ r. ⌜ r ≡ takes (now (t .entry)) (linesTo (now (t .entry)) m) i (holdingAt (now (t .entry)) c) ⌝ }
+    ensures { λ r. ⌜ r ≡ entryBeyondShare (now (t .entry)) (linesTo (now (t .entry)) m) i (holdingAt (now (t .entry)) c) ⌝ }
 {
-    let number = octets::get64(t, c + 19);
-    let hi = octets::get64(t, c + 1);
-    let lo = octets::get64(t, c + 9);
+    let number = record::number_at(t, c);
+    let hi = octets::get64(t, c + layout::ADDRESS_AT);
+    let lo = octets::get64(t, c + layout::LOW_AT);
     let mut k: usize = 0;
     let mut j: usize = 0;
     while j < i {
@@ -227,20 +227,20 @@ fn entry_takes(t: &[u8], i: usize, c: usize, m: usize) -> usize
         }
         j += 1;
     }
-    taken(t, m, k, hi, lo)
+    address_beyond_share(t, m, k, hi, lo)
 }
 
-// A table of few slots: each entry is compared with all before it. The shares are all that is kept back before the first entry; an entry takes from what its address's share keeps, or one slot more.
-fn few_together(t: &[u8], n: usize, m: usize, shares: usize) -> bool
+// A table of few slots: each entry is compared with all before it. Before the first entry the reserve is the sum of the shares; an entry takes from what its share reserves, or one slot beyond it.
+fn few_sound(t: &[u8], n: usize, m: usize, shares: usize) -> bool
     requires { ⌜ (n ≤ 64) × (m ≤ 16) × (slotAt n ≤ length (now t)) × (shares ≤ 64) × (shares ≡ sharesOf (linesTo (now t) m)) × (every validLine (linesTo (now t) m) ≡ true) × (noTwo sameAddress (linesTo (now t) m) ≡ true) ⌝ }
-    ensures { λ r. ⌜ r ≡ together (now (t .entry)) (linesTo (now (t .entry)) m) n ⌝ }
+    ensures { λ r. ⌜ r ≡ entriesSound (now (t .entry)) (linesTo (now (t .entry)) m) n ⌝ }
 {
     let mut k = shares;
     let mut i: usize = 0;
     while i < n {
         let a = layout::SLOTS_AT + layout::SLOT * i;
         if record::in_use(t[a]) {
-            let x = entry_takes(t, i, a, m);
+            let x = entry_beyond_share(t, i, a, m);
             if x > 1 {
                 return false;
             }
@@ -252,14 +252,14 @@ fn few_together(t: &[u8], n: usize, m: usize, shares: usize) -> bool
 }
 
 // A table of many slots: pass by pass, with the tables of first slots.
-fn many_together(t: &[u8], n: usize, m: usize) -> bool
+fn many_sound(t: &[u8], n: usize, m: usize) -> bool
     requires { ⌜ (n ≤ 64) × (m ≤ 16) × (slotAt n ≤ length (now t)) × (every validLine (linesTo (now t) m) ≡ true) ⌝ }
-    ensures { λ r. ⌜ r ≡ together (now (t .entry)) (linesTo (now (t .entry)) m) n ⌝ }
+    ensures { λ r. ⌜ r ≡ entriesSound (now (t .entry)) (linesTo (now (t .entry)) m) n ⌝ }
 {
     if !numbers_apart(t, n) {
         return false;
     }
-    if !holders_fit(t, n, m) {
+    if !holders_sound(t, n, m) {
         return false;
     }
     let kept = holdings::reserve_of(t, n, m);
@@ -275,9 +275,9 @@ fn holdings_sound(t: &[u8], n: usize, m: usize, shares: usize) -> bool
     ensures { λ r. ⌜ r ≡ soundHoldings n (linesTo (now (t .entry)) m) (heldTo (now (t .entry)) n) ⌝ }
 {
     if n <= FEW {
-        return few_together(t, n, m, shares);
+        return few_sound(t, n, m, shares);
     }
-    many_together(t, n, m)
+    many_sound(t, n, m)
 }
 
 // The rules of a table of n slots, whose entries each meet their own.
@@ -285,7 +285,7 @@ fn rules_sound(t: &[u8], n: usize, m: usize) -> bool
     requires { ⌜ (n ≤ 64) × (m ≤ 16) × (slotAt n ≤ length (now t)) × (every validEntry (heldTo (now t) n) ≡ true) ⌝ }
     ensures { λ r. ⌜ r ≡ (ltb (bigEndian (now (t .entry)) 1 4) cycle && (soundRoster n (linesTo (now (t .entry)) m) && soundHoldings n (linesTo (now (t .entry)) m) (heldTo (now (t .entry)) n))) ⌝ }
 {
-    if octets::get32(t, layout::PLACE_AT) >= 619315200 {
+    if octets::get32(t, layout::PLACE_AT) >= clock::CYCLE {
         return false;
     }
     if !roster::lines_good(t, layout::LINES_AT, m) {
@@ -318,7 +318,7 @@ pub fn roster_sound(r: &[u8], n: usize) -> bool
     ensures { λ x. ⌜ x ≡ goodRoster n (now (r .entry)) ⌝ }
 {
     let len = r.len();
-    if len > 304 {
+    if len > layout::ROSTER {
         return false;
     }
     let m = len / layout::LINE;

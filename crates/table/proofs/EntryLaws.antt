@@ -12,8 +12,8 @@ use Rattle.model.specs.Table.{held, slotBytes}
 use Rattle.model.proofs.NumberLaws.{splice-splice, splice-on, splice-all, length-bytes, length-encode, length-part}
 use Rattle.model.proofs.ListLaws.{length-map}
 use Rattle.entries.specs.declared.Entry.{Entry}
-use Rattle.entries.specs.declared.State.the-variants.{Pending}
-use Rattle.table.specs.Stored.{whoFields, whoParts, whatFields, nameBytes, entryBytes, storedAs}
+use Rattle.record.specs.declared.State.the-variants.{Pending}
+use Rattle.table.specs.Stored.{kindToNumber, kindToNumberHalves, leaseToClass, nameBytes, entryBytes, storedAs}
 
 -- a number's bytes in two parts
 bytes-add : (j k x y : ℕ) → y < 256 ^ k → bytesOf (j + k) (x * 256 ^ k + y) ≡ bytesOf j x ++ bytesOf k y
@@ -26,9 +26,9 @@ bytes-add j (suc k) x y h =
     let m : (x * 256 ^ k * 256 + y) % 256 ≡ y % 256 = omega arith in
     rw (add-suc, pow-suc, p, d, m, bytes-add j k x (y / 256) (omega arith), append-assoc)
 
-pub who-is : (e : Entry) → e .low < 2 ^ 64 → encode (whoParts e) ≡ encode (whoFields e)
+pub halves-written : (e : Entry) → e .low < 2 ^ 64 → encode (kindToNumberHalves e) ≡ encode (kindToNumber e)
 unfolding encode
-who-is e h = rw (bytes-add 8 8 (e .high) (e .low) h, append-assoc)
+halves-written e h = rw (bytes-add 8 8 (e .high) (e .low) h, append-assoc)
 
 -- a name that d has whole keeps its length when it is folded
 pub folded-length : (d : List ℕ) (at len : ℕ) → at + len ≤ length d → length (map fold (part at len d)) ≡ len
@@ -45,13 +45,13 @@ name-bytes s name n e h l =
     rw (e, a, p, z, q, append-assoc)
 
 pub entry-bytes : (s : List ℕ) (e : Entry) (name : List ℕ) → length s ≡ 320 → length name ≤ 255
-    → splice 39 281 (nameBytes name) (splice 27 12 (encode (whatFields e)) (splice 0 27 (encode (whoFields e)) s)) ≡ entryBytes e name
+    → splice 39 281 (nameBytes name) (splice 27 12 (encode (leaseToClass e)) (splice 0 27 (encode (kindToNumber e)) s)) ≡ entryBytes e name
 unfolding entryBytes
 entry-bytes s e name h l =
-    let a = splice-on 27 12 (encode (whoFields e)) (encode (whatFields e)) s (length-encode (whoFields e)) (omega arith) in
-    let ln : length (encode (whoFields e) ++ encode (whatFields e)) ≡ 39 =
-    length-append (encode (whoFields e)) (encode (whatFields e)) ∙ (rw (length-encode (whoFields e), length-encode (whatFields e))) in
-    let b = splice-on 39 281 (encode (whoFields e) ++ encode (whatFields e)) (nameBytes name) s ln (omega arith) in
+    let a = splice-on 27 12 (encode (kindToNumber e)) (encode (leaseToClass e)) s (length-encode (kindToNumber e)) (omega arith) in
+    let ln : length (encode (kindToNumber e) ++ encode (leaseToClass e)) ≡ 39 =
+    length-append (encode (kindToNumber e)) (encode (leaseToClass e)) ∙ (rw (length-encode (kindToNumber e), length-encode (leaseToClass e))) in
+    let b = splice-on 39 281 (encode (kindToNumber e) ++ encode (leaseToClass e)) (nameBytes name) s ln (omega arith) in
     rw (a, b) (splice-all 320 _ s h)
 
 -- a pending entry's bytes are the model's

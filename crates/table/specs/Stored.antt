@@ -6,28 +6,21 @@ use lib.ListN.{length, replicate}
 use Rattle.model.specs.Numbers.{bytesOf, encode}
 use Rattle.model.specs.Table as table
 use Rattle.wire.specs.declared.LlqNumber.{LlqNumber}
-use Rattle.entries.specs.declared.State.{State}
-use Rattle.entries.specs.declared.State.the-variants.{Free, Pending, Established}
+use Rattle.record.specs.State.{kindByte}
 use Rattle.entries.specs.declared.Entry.{Entry}
 use Rattle.entries.specs.Reads.{addressOf}
 
--- the kind of each state
-abbrev pub kindByte : State → ℕ
-kindByte Free = 4
-kindByte Pending = 5
-kindByte Established = 6
-
 -- kind, address, port and number
-abbrev pub whoFields : Entry → List (ℕ × ℕ)
-whoFields e = (1, kindByte (e .state)) ∷ (16, addressOf (e .high) (e .low)) ∷ (2, e .port) ∷ (8, e .number .0) ∷ []
+abbrev pub kindToNumber : Entry → List (ℕ × ℕ)
+kindToNumber e = (1, kindByte (e .state)) ∷ (16, addressOf (e .high) (e .low)) ∷ (2, e .port) ∷ (8, e .number .0) ∷ []
 
 -- as the code writes them: the address in two halves
-abbrev pub whoParts : Entry → List (ℕ × ℕ)
-whoParts e = (1, kindByte (e .state)) ∷ (8, e .high) ∷ (8, e .low) ∷ (2, e .port) ∷ (8, e .number .0) ∷ []
+abbrev pub kindToNumberHalves : Entry → List (ℕ × ℕ)
+kindToNumberHalves e = (1, kindByte (e .state)) ∷ (8, e .high) ∷ (8, e .low) ∷ (2, e .port) ∷ (8, e .number .0) ∷ []
 
 -- lease, stamp, type and class
-abbrev pub whatFields : Entry → List (ℕ × ℕ)
-whatFields e = (4, e .lease) ∷ (4, e .stamp) ∷ (2, e .qtype) ∷ (2, e .qclass) ∷ []
+abbrev pub leaseToClass : Entry → List (ℕ × ℕ)
+leaseToClass e = (4, e .lease) ∷ (4, e .stamp) ∷ (2, e .qtype) ∷ (2, e .qclass) ∷ []
 
 -- the name's length, the name and zeros
 abbrev pub nameBytes : List ℕ → List ℕ
@@ -35,7 +28,7 @@ nameBytes name = bytesOf 1 (length name) ++ (name ++ replicate (280 - length nam
 
 -- an entry's 320 bytes
 unfoldable pub entryBytes : Entry → List ℕ → List ℕ
-entryBytes e name = (encode (whoFields e) ++ encode (whatFields e)) ++ nameBytes name
+entryBytes e name = (encode (kindToNumber e) ++ encode (leaseToClass e)) ++ nameBytes name
 
 -- the model's entry, pending or established
 abbrev pub storedAs : Bool → Entry → List ℕ → table.Entry

@@ -1,7 +1,7 @@
 // Changes of a table in place: a slot written, the clock moved and run-out entries freed, a table made.
 use clock::Clock;
 use entries::Entry;
-use entries::State;
+use record::State;
 ghost use mathlib.Core.Path.{_≡_};
 ghost use mathlib.Core.Bool.{true};
 ghost use mathlib.Core.List.{_∷_, [], map};
@@ -15,7 +15,7 @@ ghost use Rattle.model.specs.Table.{slotAt, lineAt, sizeOf, readTable, tableByt
 ghost use Rattle.model.specs.Serve.{ended, slotRunOut, movedOn, freeRunOut};
 ghost use Rattle.model.specs.Calls.{freedBy, goodRoster};
 ghost use Rattle.table.specs.Written.{WellFormed, Written};
-ghost use Rattle.table.specs.Stored.{kindByte, whoFields, whatFields, nameBytes, entryBytes};
+ghost use Rattle.table.specs.Stored.{kindToNumber, leaseToClass, nameBytes, entryBytes};
 ghost use Rattle.table.specs.Fresh.{unusedLines, freeSlots, fresh};
 
 // WRITERS OF A SLOT
@@ -26,43 +26,33 @@ pub fn end_entry(t: &mut [u8], i: usize)
     ensures { λ _. ⌜ now (t .exit) ≡ splice (slotAt i) 320 (slotBytes ended) (now (t .entry)) ⌝ }
 {
     let a = layout::SLOTS_AT + layout::SLOT * i;
-    octets::put8(t, a, 4);
-    octets::clear(t, a + 1, 319);
-}
-
-fn kind_byte(s: State) -> u8
-    ensures { λ r. ⌜ r ≡ kindByte s ⌝ }
-{
-    match s {
-        State::Free => 4,
-        State::Pending => 5,
-        State::Established => 6,
-    }
+    octets::put8(t, a, record::kind_byte(State::Free));
+    octets::clear(t, a + 1, layout::SLOT_BODY);
 }
 
 // Kind, address, port and number.
-fn put_who(s: &mut [u8], e: Entry)
+fn put_kind_to_number(s: &mut [u8], e: Entry)
     requires { ⌜ length (now s) ≡ 320 ⌝ }
-    ensures { λ _. ⌜ now (s .exit) ≡ splice 0 27 (encode (whoFields e)) (now (s .entry)) ⌝ }
+    ensures { λ _. ⌜ now (s .exit) ≡ splice 0 27 (encode (kindToNumber e)) (now (s .entry)) ⌝ }
 {
     let state = e.state;
     let number = e.number;
-    octets::put8(s, 0, kind_byte(state));
-    octets::put64(s, 1, e.high);
-    octets::put64(s, 9, e.low);
-    octets::put16(s, 17, e.port);
-    octets::put64(s, 19, number.0);
+    octets::put8(s, 0, record::kind_byte(state));
+    octets::put64(s, layout::ADDRESS_AT, e.high);
+    octets::put64(s, layout::LOW_AT, e.low);
+    octets::put16(s, layout::PORT_AT, e.port);
+    octets::put64(s, layout::NUMBER_AT, number.0);
 }
 
 // Lease, stamp, type, class.
-fn put_what(s: &mut [u8], e: Entry)
+fn put_lease_to_class(s: &mut [u8], e: Entry)
     requires { ⌜ length (now s) ≡ 320 ⌝ }
-    ensures { λ _. ⌜ now (s .exit) ≡ splice 27 12 (encode (whatFields e)) (now (s .entry)) ⌝ }
+    ensures { λ _. ⌜ now (s .exit) ≡ splice 27 12 (encode (leaseToClass e)) (now (s .entry)) ⌝ }
 {
-    octets::put32(s, 27, e.lease);
-    octets::put32(s, 31, e.stamp);
-    octets::put16(s, 35, e.qtype);
-    octets::put16(s, 37, e.qclass);
+    octets::put32(s, layout::LEASE_AT, e.lease);
+    octets::put32(s, layout::STAMP_AT, e.stamp);
+    octets::put16(s, layout::TYPE_AT, e.qtype);
+    octets::put16(s, layout::CLASS_AT, e.qclass);
 }
 
 // The name's length, the name that d has at a place, folded, and zeros.
@@ -71,9 +61,9 @@ fn put_name(s: &mut [u8], len: u8, d: &[u8], at: usize)
     ensures { λ _. ⌜ now (s .exit) ≡ splice 39 281 (nameBytes (map fold (part at len (now (d .entry))))) (now (s .entry)) ⌝ }
 {
     let n = len as usize;
-    octets::put8(s, 39, len);
-    names::copy_folded(s, 40, d, at, n);
-    octets::clear(s, 40 + n, 280 - n);
+    octets::put8(s, layout::NAME_LENGTH_AT, len);
+    names::copy_folded(s, layout::NAME_AT, d, at, n);
+    octets::clear(s, layout::NAME_AT + n, layout::NAME_ROOM - n);
 }
 
 // A slot's bytes.
@@ -81,8 +71,8 @@ fn put_slot(s: &mut [u8], e: Entry, d: &[u8], at: usize)
     requires { ⌜ (length (now s) ≡ 320) × (at + e .len ≤ length (now d)) ⌝ }
     ensures { λ _. ⌜ now (s .exit) ≡ entryBytes e (map fold (part at (e .len) (now (d .entry)))) ⌝ }
 {
-    put_who(s, e);
-    put_what(s, e);
+    put_kind_to_number(s, e);
+    put_lease_to_class(s, e);
     put_name(s, e.len, d, at);
 }
 
@@ -96,12 +86,13 @@ pub fn put_entry(t: &mut [u8], i: usize, e: Entry, d: &[u8], at: usize)
     put_slot(&mut t[a..z], e, d, at)
 }
 
-// The entry of slot i is established: its kind alone.
+// The entry of slot i is established: its state alone.
 pub fn establish_at(t: &mut [u8], i: usize)
     requires { ⌜ slotAt (i + 1) ≤ length (now t) ⌝ }
     ensures { λ _. ⌜ now (t .exit) ≡ splice (slotAt i) 1 (bytesOf 1 6) (now (t .entry)) ⌝ }
 {
-    octets::put8(t, layout::SLOTS_AT + layout::SLOT * i, 6)
+    let a = layout::SLOTS_AT + layout::SLOT * i;
+    octets::put8(t, a, record::kind_byte(State::Established))
 }
 
 // The entry of slot i gets a lease and a stamp.
@@ -110,8 +101,8 @@ pub fn renew_at(t: &mut [u8], i: usize, lease: u32, stamp: u32)
     ensures { λ _. ⌜ now (t .exit) ≡ splice (slotAt i + 27) 8 (encode ((4, lease) ∷ (4, stamp) ∷ [])) (now (t .entry)) ⌝ }
 {
     let a = layout::SLOTS_AT + layout::SLOT * i;
-    octets::put32(t, a + 27, lease);
-    octets::put32(t, a + 31, stamp);
+    octets::put32(t, a + layout::LEASE_AT, lease);
+    octets::put32(t, a + layout::STAMP_AT, stamp);
 }
 
 // THE CLOCK, AND WHAT HAS RUN OUT
@@ -168,8 +159,8 @@ fn clear_line(t: &mut [u8], i: usize)
     ensures { λ _. ⌜ now (t .exit) ≡ splice (lineAt i) 19 unusedLine (now (t .entry)) ⌝ }
 {
     let a = layout::LINES_AT + layout::LINE * i;
-    octets::put8(t, a, 2);
-    octets::clear(t, a + 1, 18);
+    octets::put8(t, a, layout::UNUSED_KIND);
+    octets::clear(t, a + 1, layout::LINE_BODY);
 }
 
 // The lines from m on become unused.
@@ -178,7 +169,7 @@ fn clear_lines(t: &mut [u8], m: usize)
     ensures { λ _. ⌜ now (t .exit) ≡ splice (lineAt m) (19 * (16 - m)) (unusedLines (16 - m)) (now (t .entry)) ⌝ }
 {
     let mut k = 0;
-    while k < 16 - m {
+    while k < layout::LINES - m {
         clear_line(t, m + k);
         k += 1;
     }
@@ -202,7 +193,7 @@ pub fn make_fresh(t: &mut [u8], n: usize, place: u32, roster: &[u8])
     ensures { λ _. ⌜ now (t .exit) ≡ tableBytes (fresh place (now (roster .entry)) n) ⌝ }
 {
     let k = roster.len();
-    octets::put8(t, 0, 1);
+    octets::put8(t, 0, layout::CLOCK_KIND);
     put_clock(t, Clock { place, running: 0 });
     octets::copy(t, layout::LINES_AT, roster, 0, k);
     clear_lines(t, k / layout::LINE);

@@ -5,7 +5,7 @@ use Rattle.entries.proofs.entry_at.Statement.{statement}
 use Rattle.entries.proofs.entry_at.Tie as tie
 use Rattle.entries.proofs.entry_at.Reads as reads
 use Rattle.entries.proofs.entry_at.Lts as lts
-use Rattle.entries.proofs.state_of.Reads as state-of-reads
+use Rattle.record.proofs.state_of.Reads as state-of-reads
 use Rattle.octets.proofs.get16.Reads as get16-reads
 use Rattle.octets.proofs.get32.Reads as get32-reads
 use Rattle.octets.proofs.get64.Reads as get64-reads

@@ -15,11 +15,12 @@ use Rattle.entries.proofs.find_answered.Statement.{statement}
 use Rattle.entries.proofs.find_answered.Tie as tie
 use Rattle.entries.proofs.find_answered.Reads as reads
 use Rattle.entries.proofs.find_answered.Lts as lts
+use Rattle.entries.proofs.entry_at.Reads as entry-at-reads
 use Rattle.record.proofs.has_number.Reads as has-number-reads
 use Rattle.entries.proofs.slot_answers.Reads as slot-answers-reads
 
 abbrev Inv-loop : tie.InvT-loop
-Inv-loop t n s d q number lease i₀ i = (i ≤ n) × noneTo t (has (bigEndian t 5 4) (answers (senderOf s) (questionOf d q) (sent number lease))) i
+Inv-loop t n s d q number lease i₀ i = (i ≤ n) × noneTo t (has (bigEndian t 5 4) (answers (senderOf s) (questionOf d q) (sent (number .0) lease))) i
 
 abbrev μ-loop : tie.MeasureT-loop
 μ-loop t n s d q number lease i₀ i = n - i
@@ -36,13 +37,16 @@ add-has-number c = search needs
 has-number-requires : tie.Need-has-number-requires Inv-loop μ-loop
 has-number-requires c κs = search needs
 
+entry-at-requires : tie.Need-entry-at-requires Inv-loop μ-loop
+entry-at-requires c κs = search needs
+
 slot-answers-requires : tie.Need-slot-answers-requires Inv-loop μ-loop
 slot-answers-requires c κs = search needs
 
 returns : tie.Need-returns Inv-loop μ-loop
 returns c =
-    let l = c .before .before .before .before .before .loop in
-    sym (law.found _ _ (c .before .before .before .before .before .before .before .before .pre .0) _ (l .i) (omega arith) (l .inv .1) (sym (c .before .slot-answers .ensures) ∙ c .if2 .taken))
+    let l = c .before .before .before .before .before .before .loop in
+    law.slot-found _ _ (c .before .before .before .before .before .before .before .before .before .pre .0) _ (l .i) (omega arith) (l .inv .1) (sym (c .before .slot-answers .ensures) ∙ c .if2 .taken) _ (c .before .before .entry-at .ensures)
 
 add-i : tie.Need-add-i Inv-loop μ-loop
 add-i c = search needs
@@ -58,8 +62,8 @@ loop-again c =
       omega arith,
       law.none-still _ _ (l .i)
           (⊎-elim
-          (λ w. sym (w .1 .ensures) ∙ w .2 .left)
-          (λ w. law.fails-part _ _ (numbered (a .number)) _ _ (λ h e. rw e) (sym (c .before .has-number .ensures) ∙ w .left))
+          (λ w. sym (w .2 .ensures) ∙ w .3 .left)
+          (λ w. law.fails-part _ _ (numbered (a .number .0)) _ _ (λ h e. rw e) (sym (c .before .has-number .ensures) ∙ w .left))
           (c .if1 .came))
           (l .inv .1),
     )
@@ -68,7 +72,7 @@ returns-2 : tie.Need-returns-2 Inv-loop μ-loop
 returns-2 c =
     let z = c .before .before .before .before in
     let e : c .before .loop .i ≡ z .args .n = omega arith in
-    sym (law.not-found _ _ (z .pre .0) _ (rw e at (c .before .loop .inv .1)))
+    law.nothing-found _ _ (z .pre .0) _ (rw e at (c .before .loop .inv .1))
 
 pub find-answered-spec : {M : Type 1} → statement M
 find-answered-spec =
@@ -80,6 +84,7 @@ find-answered-spec =
     mul-has-number
     add-has-number
     has-number-requires
+    entry-at-requires
     slot-answers-requires
     returns
     add-i

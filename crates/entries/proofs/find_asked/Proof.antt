@@ -15,6 +15,7 @@ use Rattle.entries.proofs.find_asked.Statement.{statement}
 use Rattle.entries.proofs.find_asked.Tie as tie
 use Rattle.entries.proofs.find_asked.Reads as reads
 use Rattle.entries.proofs.find_asked.Lts as lts
+use Rattle.entries.proofs.entry_at.Reads as entry-at-reads
 use Rattle.record.proofs.has_holder.Reads as has-holder-reads
 use Rattle.entries.proofs.slot_asks.Reads as slot-asks-reads
 
@@ -36,13 +37,16 @@ add-has-holder c = search needs
 has-holder-requires : tie.Need-has-holder-requires Inv-loop μ-loop
 has-holder-requires c κs = search needs
 
+entry-at-requires : tie.Need-entry-at-requires Inv-loop μ-loop
+entry-at-requires c κs = search needs
+
 slot-asks-requires : tie.Need-slot-asks-requires Inv-loop μ-loop
 slot-asks-requires c κs = search needs
 
 returns : tie.Need-returns Inv-loop μ-loop
 returns c =
-    let l = c .before .before .before .before .before .loop in
-    sym (law.found _ _ (c .before .before .before .before .before .before .before .before .pre .0) _ (l .i) (omega arith) (l .inv .1) (sym (c .before .slot-asks .ensures) ∙ c .if2 .taken))
+    let l = c .before .before .before .before .before .before .loop in
+    law.slot-found _ _ (c .before .before .before .before .before .before .before .before .before .pre .0) _ (l .i) (omega arith) (l .inv .1) (sym (c .before .slot-asks .ensures) ∙ c .if2 .taken) _ (c .before .before .entry-at .ensures)
 
 add-i : tie.Need-add-i Inv-loop μ-loop
 add-i c = search needs
@@ -58,7 +62,7 @@ loop-again c =
       omega arith,
       law.none-still _ _ (l .i)
           (⊎-elim
-          (λ w. sym (w .1 .ensures) ∙ w .2 .left)
+          (λ w. sym (w .2 .ensures) ∙ w .3 .left)
           (λ w. law.fails-part _ _ (heldBy (senderOf (a .s) .address)) _ _ (λ h e. rw e) (sym (c .before .has-holder .ensures) ∙ w .left))
           (c .if1 .came))
           (l .inv .1),
@@ -68,7 +72,7 @@ returns-2 : tie.Need-returns-2 Inv-loop μ-loop
 returns-2 c =
     let z = c .before .before .before .before in
     let e : c .before .loop .i ≡ z .args .n = omega arith in
-    sym (law.not-found _ _ (z .pre .0) _ (rw e at (c .before .loop .inv .1)))
+    law.nothing-found _ _ (z .pre .0) _ (rw e at (c .before .loop .inv .1))
 
 pub find-asked-spec : {M : Type 1} → statement M
 find-asked-spec =
@@ -80,6 +84,7 @@ find-asked-spec =
     mul-has-holder
     add-has-holder
     has-holder-requires
+    entry-at-requires
     slot-asks-requires
     returns
     add-i

@@ -16,11 +16,12 @@ use Rattle.entries.proofs.find_refreshed.Statement.{statement}
 use Rattle.entries.proofs.find_refreshed.Tie as tie
 use Rattle.entries.proofs.find_refreshed.Reads as reads
 use Rattle.entries.proofs.find_refreshed.Lts as lts
+use Rattle.entries.proofs.entry_at.Reads as entry-at-reads
 use Rattle.record.proofs.has_number.Reads as has-number-reads
 use Rattle.entries.proofs.slot_refreshes.Reads as slot-refreshes-reads
 
 abbrev Inv-loop : tie.InvT-loop
-Inv-loop t n s d q number i₀ i = (i ≤ n) × noneTo t (has (bigEndian t 5 4) (refreshes (senderOf s) (questionOf d q) (sent number 0))) i
+Inv-loop t n s d q number i₀ i = (i ≤ n) × noneTo t (has (bigEndian t 5 4) (refreshes (senderOf s) (questionOf d q) (sent (number .0) 0))) i
 
 abbrev μ-loop : tie.MeasureT-loop
 μ-loop t n s d q number i₀ i = n - i
@@ -37,13 +38,16 @@ add-has-number c = search needs
 has-number-requires : tie.Need-has-number-requires Inv-loop μ-loop
 has-number-requires c κs = search needs
 
+entry-at-requires : tie.Need-entry-at-requires Inv-loop μ-loop
+entry-at-requires c κs = search needs
+
 slot-refreshes-requires : tie.Need-slot-refreshes-requires Inv-loop μ-loop
 slot-refreshes-requires c κs = search needs
 
 returns : tie.Need-returns Inv-loop μ-loop
 returns c =
-    let l = c .before .before .before .before .before .loop in
-    sym (law.found _ _ (c .before .before .before .before .before .before .before .before .pre .0) _ (l .i) (omega arith) (l .inv .1) (sym (c .before .slot-refreshes .ensures) ∙ c .if2 .taken))
+    let l = c .before .before .before .before .before .before .loop in
+    law.slot-found _ _ (c .before .before .before .before .before .before .before .before .before .pre .0) _ (l .i) (omega arith) (l .inv .1) (sym (c .before .slot-refreshes .ensures) ∙ c .if2 .taken) _ (c .before .before .entry-at .ensures)
 
 add-i : tie.Need-add-i Inv-loop μ-loop
 add-i c = search needs
@@ -59,8 +63,8 @@ loop-again c =
       omega arith,
       law.none-still _ _ (l .i)
           (⊎-elim
-          (λ w. sym (w .1 .ensures) ∙ w .2 .left)
-          (λ w. law.fails-part _ _ (numbered (a .number)) _ _ (λ h e. rw e (and-false (h .established))) (sym (c .before .has-number .ensures) ∙ w .left))
+          (λ w. sym (w .2 .ensures) ∙ w .3 .left)
+          (λ w. law.fails-part _ _ (numbered (a .number .0)) _ _ (λ h e. rw e (and-false (h .established))) (sym (c .before .has-number .ensures) ∙ w .left))
           (c .if1 .came))
           (l .inv .1),
     )
@@ -69,7 +73,7 @@ returns-2 : tie.Need-returns-2 Inv-loop μ-loop
 returns-2 c =
     let z = c .before .before .before .before in
     let e : c .before .loop .i ≡ z .args .n = omega arith in
-    sym (law.not-found _ _ (z .pre .0) _ (rw e at (c .before .loop .inv .1)))
+    law.nothing-found _ _ (z .pre .0) _ (rw e at (c .before .loop .inv .1))
 
 pub find-refreshed-spec : {M : Type 1} → statement M
 find-refreshed-spec =
@@ -81,6 +85,7 @@ find-refreshed-spec =
     mul-has-number
     add-has-number
     has-number-requires
+    entry-at-requires
     slot-refreshes-requires
     returns
     add-i

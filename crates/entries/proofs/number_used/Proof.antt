@@ -16,7 +16,7 @@ use Rattle.entries.proofs.number_used.Lts as lts
 use Rattle.record.proofs.has_number.Reads as has-number-reads
 
 abbrev Inv-loop : tie.InvT-loop
-Inv-loop t n x i₀ i = (i ≤ n) × noneTo t (has (bigEndian t 5 4) (numbered x)) i
+Inv-loop t n x i₀ i = (i ≤ n) × noneTo t (has (bigEndian t 5 4) (numbered (x .0))) i
 
 abbrev μ-loop : tie.MeasureT-loop
 μ-loop t n x i₀ i = n - i

@@ -1,6 +1,10 @@
--- `entries::slot_asks` meets its contract. Assumes nothing.
-use mathlib.Core.Path.{sym, _∙_}
+-- `entries::slot_asks` meets its contract: by the state. Assumes nothing.
+use native.Mathlib.Omega.{arith}
+use mathlib.Core.Path.{_≡_, sym, ap, _∙_}
+use lib.ListN.{getD}
+use Rattle.model.specs.Table.{slotAt}
 use Rattle.layout.specs.Held.{holdingAt}
+use Rattle.record.specs.declared.State.the-variants.{Free, Pending, Established}
 use Rattle.entries.proofs.Laws as law
 use borrow.Author.Needs.{needs}
 use Rattle.entries.proofs.slot_asks.Statement.{statement}
@@ -8,7 +12,6 @@ use Rattle.entries.proofs.slot_asks.Tie as tie
 use Rattle.entries.proofs.slot_asks.Reads as reads
 use Rattle.entries.proofs.slot_asks.Lts as lts
 use Rattle.entries.proofs.entry_asks.Reads as entry-asks-reads
-use Rattle.record.proofs.in_use.Reads as in-use-reads
 
 mul-a : tie.Need-mul-a
 mul-a c = search needs
@@ -16,22 +19,52 @@ mul-a c = search needs
 add-a : tie.Need-add-a
 add-a c = search needs
 
-shared-slice-read-in-use : tie.Need-shared-slice-read-in-use
-shared-slice-read-in-use c = search needs
+enum-told : tie.Need-enum-told
+enum-told c = search needs
 
-in-use-requires : tie.Need-in-use-requires
-in-use-requires c κs = search needs
+enum-told-2 : tie.Need-enum-told-2
+enum-told-2 c = search needs
 
 entry-asks-requires : tie.Need-entry-asks-requires
 entry-asks-requires c κs = search needs
 
+enum-told-3 : tie.Need-enum-told-3
+enum-told-3 c = search needs
+
+entry-asks-requires-2 : tie.Need-entry-asks-requires-2
+entry-asks-requires-2 c κs = search needs
+
 returns : tie.Need-returns
-unfolding holdingAt
-returns c = c .entry-asks .ensures ∙ sym (law.has-in _ _ _ _ (sym (c .before .before .in-use .ensures) ∙ c .before .if1 .taken))
+returns c =
+    let z = c .before .before .before .before in
+    let a = z .args in
+    sym (law.has-out _ _ (a .t .now) (slotAt (a .i)) (law.state-in (a .t .now) (slotAt (a .i)) (a .e) (z .pre .1) Free (c .enum-told .given .1)))
 
 returns-2 : tie.Need-returns-2
-returns-2 c = sym (law.has-out _ _ _ _ (sym (c .before .in-use .ensures) ∙ c .if1 .left))
+unfolding holdingAt
+returns-2 c =
+    let z = c .before .before .before .before .before in
+    let a = z .args in
+    rw (law.has-in _ _ (a .t .now) (slotAt (a .i)) (law.state-in (a .t .now) (slotAt (a .i)) (a .e) (z .pre .1) Pending (c .before .enum-told2 .given .1))) (c .entry-asks .ensures)
+
+returns-3 : tie.Need-returns-3
+unfolding holdingAt
+returns-3 c =
+    let z = c .before .before .before .before .before in
+    let a = z .args in
+    rw (law.has-in _ _ (a .t .now) (slotAt (a .i)) (law.state-in (a .t .now) (slotAt (a .i)) (a .e) (z .pre .1) Established (c .before .enum-told3 .given .1))) (c .entry-asks2 .ensures)
 
 pub slot-asks-spec : {M : Type 1} → statement M
 slot-asks-spec =
-    tie.close (tie.spec mul-a add-a shared-slice-read-in-use in-use-requires entry-asks-requires returns returns-2)
+    tie.close
+    (tie.spec
+    mul-a
+    add-a
+    enum-told
+    enum-told-2
+    entry-asks-requires
+    enum-told-3
+    entry-asks-requires-2
+    returns
+    returns-2
+    returns-3)

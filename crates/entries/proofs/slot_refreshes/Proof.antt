@@ -1,61 +1,72 @@
--- `entries::slot_refreshes` meets its contract. Assumes nothing.
-use mathlib.Core.Path.{sym}
-use borrow.Author.Needs.{needs}
+-- `entries::slot_refreshes` meets its contract: the number, the state, and then whose it is. Assumes nothing.
+use Prim.Native.Nat.{ℕ}
+use native.Mathlib.Omega.{arith}
+use mathlib.Core.Path.{_≡_, sym, ap, _∙_}
+use mathlib.Core.Bool.{false, and-true, and-false}
 use borrow.Author.Tests.{eq-eqb, ne-eqb}
+use Rattle.model.specs.Numbers.{bigEndian}
 use Rattle.model.specs.Table.{slotAt, readEntry}
-use Rattle.layout.specs.Held.{holdingAt}
+use Rattle.entries.specs.declared.Entry.{Entry}
+use Rattle.entries.specs.Reads.{entryAt}
 use Rattle.entries.proofs.Laws as law
+use Rattle.record.specs.declared.State.the-variants.{Free, Pending, Established}
+use borrow.Author.Needs.{needs}
 use Rattle.entries.proofs.slot_refreshes.Statement.{statement}
 use Rattle.entries.proofs.slot_refreshes.Tie as tie
 use Rattle.entries.proofs.slot_refreshes.Reads as reads
 use Rattle.entries.proofs.slot_refreshes.Lts as lts
-use Rattle.entries.proofs.entry_asks.Reads as entry-asks-reads
-use Rattle.octets.proofs.get64.Reads as get64-reads
-
-mul-a : tie.Need-mul-a
-mul-a c = search needs
-
-add-a : tie.Need-add-a
-add-a c = search needs
-
-shared-slice-read-if1 : tie.Need-shared-slice-read-if1
-shared-slice-read-if1 c = search needs
+use Rattle.entries.proofs.slot_asks.Reads as slot-asks-reads
 
 returns : tie.Need-returns
-returns c = sym (law.not-six _ _ _ _ (c .if1 .taken))
+unfolding entryAt readEntry
+returns c =
+    let z = c .before .before .before .before .before .before in
+    let a = z .args in
+    let own : a .e .number .0 ≡ readEntry (a .t .now) (slotAt (a .i)) .number = ap (λ (x : Entry). x .number .0) (z .pre .1) in
+    sym (law.has-never _ _ (a .t .now) (slotAt (a .i)) (rw (← own, ne-eqb _ _ (c .if1 .taken), and-false)))
 
-add-get64 : tie.Need-add-get64
-add-get64 c = search needs
+enum-told : tie.Need-enum-told
+enum-told c = search needs
 
-get64-requires : tie.Need-get64-requires
-get64-requires c κs = search needs
+enum-told-2 : tie.Need-enum-told-2
+enum-told-2 c = search needs
+
+enum-told-3 : tie.Need-enum-told-3
+enum-told-3 c = search needs
+
+slot-asks-requires : tie.Need-slot-asks-requires
+slot-asks-requires c κs = search needs
 
 returns-2 : tie.Need-returns-2
-unfolding readEntry
 returns-2 c =
-    let u = law.six-in (c .before .before .before .before .before .before .args .t .now) (slotAt (c .before .before .before .before .before .before .args .i)) (c .before .before .if1 .left) in
-    rw (law.has-in _ _ _ _ u, eq-eqb _ _ (c .before .before .if1 .left), ← c .before .get64 .ensures, ne-eqb _ _ (c .if2 .taken))
-
-entry-asks-requires : tie.Need-entry-asks-requires
-entry-asks-requires c κs = search needs
+    let z = c .before .before .before .before .before .before .before .before in
+    let a = z .args in
+    sym (law.has-never _ _ (a .t .now) (slotAt (a .i)) (rw (law.state-established (a .t .now) (slotAt (a .i)) (a .e) (z .pre .1) Free (c .enum-told .given .1))))
 
 returns-3 : tie.Need-returns-3
-unfolding holdingAt readEntry
 returns-3 c =
-    let u = law.six-in (c .before .before .before .before .before .before .before .args .t .now) (slotAt (c .before .before .before .before .before .before .before .args .i)) (c .before .before .before .if1 .left) in
-    rw (law.has-in _ _ _ _ u, eq-eqb _ _ (c .before .before .before .if1 .left), ← c .before .before .get64 .ensures, eq-eqb _ _ (c .before .if2 .left))
-    (c .entry-asks .ensures)
+    let z = c .before .before .before .before .before .before .before .before in
+    let a = z .args in
+    sym (law.has-never _ _ (a .t .now) (slotAt (a .i)) (rw (law.state-established (a .t .now) (slotAt (a .i)) (a .e) (z .pre .1) Pending (c .enum-told2 .given .1))))
+
+returns-4 : tie.Need-returns-4
+unfolding entryAt readEntry
+returns-4 c =
+    let z = c .before .before .before .before .before .before .before .before .before in
+    let a = z .args in
+    let own : a .e .number .0 ≡ readEntry (a .t .now) (slotAt (a .i)) .number = ap (λ (x : Entry). x .number .0) (z .pre .1) in
+    let e = law.state-established (a .t .now) (slotAt (a .i)) (a .e) (z .pre .1) Established (c .before .enum-told3 .given .1) in
+    c .slot-asks .ensures ∙ sym (law.has-same _ _ _ (a .t .now) (slotAt (a .i)) (rw (e, ← own, eq-eqb _ _ (c .before .before .before .if1 .left))))
 
 pub slot-refreshes-spec : {M : Type 1} → statement M
 slot-refreshes-spec =
     tie.close
     (tie.spec
-    mul-a
-    add-a
-    shared-slice-read-if1
     returns
-    add-get64
-    get64-requires
+    enum-told
+    enum-told-2
+    enum-told-3
+    slot-asks-requires
     returns-2
-    entry-asks-requires
-    returns-3)
+    returns-3
+    returns-4)

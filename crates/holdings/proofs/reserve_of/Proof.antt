@@ -12,7 +12,7 @@ use Rattle.holdings.proofs.reserve_of.Statement.{statement}
 use Rattle.holdings.proofs.reserve_of.Tie as tie
 use Rattle.holdings.proofs.reserve_of.Reads as reads
 use Rattle.holdings.proofs.reserve_of.Lts as lts
-use Rattle.holdings.proofs.kept_back.Reads as kept-back-reads
+use Rattle.holdings.proofs.line_reserve.Reads as line-reserve-reads
 
 abbrev Inv-loop : tie.InvT-loop
 Inv-loop t n m k₀ i₀ k i = (i ≤ m) × (k ≤ 255 * i) × (k ≡ reserve (linesTo t i) (count (heldTo t n)))
@@ -24,8 +24,8 @@ loop-holds : tie.Need-loop-holds Inv-loop μ-loop
 unfolding reserve upTo
 loop-holds c = (search needs, search needs, refl)
 
-kept-back-requires : tie.Need-kept-back-requires Inv-loop μ-loop
-kept-back-requires c κs = search needs
+line-reserve-requires : tie.Need-line-reserve-requires Inv-loop μ-loop
+line-reserve-requires c κs = search needs
 
 add-k : tie.Need-add-k Inv-loop μ-loop
 add-k c = search needs
@@ -39,7 +39,7 @@ loop-less c = search needs
 loop-again : tie.Need-loop-again Inv-loop μ-loop
 loop-again c =
     let l = c .before .before .loop in
-    (omega arith, omega arith, rw (reserve-next _ (l .i) _) (omega (arith, c .kept-back .ensures .1)))
+    (omega arith, omega arith, rw (reserve-next _ (l .i) _) (omega (arith, c .line-reserve .ensures .1)))
 
 returns : tie.Need-returns Inv-loop μ-loop
 returns c =
@@ -53,7 +53,7 @@ reserve-of-spec =
     Inv-loop
     μ-loop
     loop-holds
-    kept-back-requires
+    line-reserve-requires
     add-k
     add-i
     loop-less

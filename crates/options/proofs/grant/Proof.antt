@@ -45,8 +45,8 @@ returns c =
 get32-requires : tie.Need-get32-requires
 get32-requires c κs = search needs
 
-cast-t24 : tie.Need-cast-t24
-cast-t24 c = search needs
+cast-t22 : tie.Need-cast-t22
+cast-t22 c = search needs
 
 cast-put-entry : tie.Need-cast-put-entry
 cast-put-entry c = search needs
@@ -91,7 +91,7 @@ grant-spec =
     same-length
     returns
     get32-requires
-    cast-t24
+    cast-t22
     cast-put-entry
     put-entry-requires
     served-requires-2

@@ -1,8 +1,13 @@
--- `options::serve_refresh` meets its contract. Assumes nothing.
+-- `options::serve_refresh` meets its contract: found and ended, found and renewed, or not found. Assumes nothing.
+use Prim.Native.Nat.{ℕ, _-_}
 use native.Mathlib.Omega.{arith}
-use borrow.Author.Needs.{needs}
+use mathlib.Core.Path.{_≡_, refl, sym, ap, _∙_}
+use Rattle.model.specs.Clock.{ageAt}
+use Rattle.model.specs.Numbers.{Bytes, bigEndian}
 use Rattle.wire.specs.Records.{questionOf}
+use Rattle.entries.proofs.Laws.{found-is, nothing-is}
 use Rattle.options.proofs.OptionLaws as law
+use borrow.Author.Needs.{needs}
 use Rattle.options.proofs.serve_refresh.Statement.{statement}
 use Rattle.options.proofs.serve_refresh.Tie as tie
 use Rattle.options.proofs.serve_refresh.Reads as reads
@@ -17,6 +22,17 @@ use Rattle.table.proofs.renew_at.Reads as renew-at-reads
 find-refreshed-requires : tie.Need-find-refreshed-requires
 find-refreshed-requires c κs = search needs
 
+enum-known-i : tie.Need-enum-known-i
+enum-known-i c = search needs
+
+end-entry-requires : tie.Need-end-entry-requires
+end-entry-requires c κs =
+    let z = c .before .before .before .before .before .before .before .before .before .before .before .before in
+    let a = z .args in
+    let bytes : Bytes (a .t .now) = λ j. omega (arith, c .before .before .before .before .before .before .before .before .before .before .before .slice-known .given j) in
+    let f = found-is (a .t .now) (a .n) _ _ _ (sym (c .before .before .before .before .before .before .before .find-refreshed .ensures) ∙ c .before .before .before .before .before .i .given .1) in
+    omega (arith, z .pre .1, f .1)
+
 served-requires : tie.Need-served-requires
 served-requires c κs = search needs
 
@@ -25,22 +41,11 @@ same-length c = search needs
 
 returns : tie.Need-returns
 returns c =
-    let a = c .before .before .before .before .before .before .before .args in
-    law.refresh-none (a .t .now) (λ j. omega (arith, c .before .before .before .before .before .before .slice-known .given j)) (c .before .before .before .before .before .before .before .pre .0) (a .n) (c .before .before .before .before .before .before .before .pre .1) (a .s) 0 (questionOf (a .d .now) (a .q)) (a .o) (c .before .before .find-refreshed .ensures) (c .before .if1 .taken) _ (c .served .ensures)
-
-end-entry-requires : tie.Need-end-entry-requires
-end-entry-requires c κs = search needs
-
-served-requires-2 : tie.Need-served-requires-2
-served-requires-2 c κs = search needs
-
-same-length-2 : tie.Need-same-length-2
-same-length-2 c = search needs
-
-returns-2 : tie.Need-returns-2
-returns-2 c =
-    let a = c .before .before .before .before .before .before .before .before .before .before .before .before .before .args in
-    law.refresh-end (a .t .now) (λ j. omega (arith, c .before .before .before .before .before .before .before .before .before .before .before .before .slice-known .given j)) (c .before .before .before .before .before .before .before .before .before .before .before .before .before .pre .0) (a .n) (c .before .before .before .before .before .before .before .before .before .before .before .before .before .pre .1) (a .s) 0 (questionOf (a .d .now) (a .q)) (a .o) (c .before .before .before .before .before .before .before .before .find-refreshed .ensures) (c .before .before .before .before .before .before .before .if1 .left) (c .before .before .before .before .before .if2 .taken) _ (c .before .before .before .end-entry .ensures) _ (c .served2 .ensures)
+    let z = c .before .before .before .before .before .before .before .before .before .before .before .before .before .before .before .before in
+    let a = z .args in
+    let bytes : Bytes (a .t .now) = λ j. omega (arith, c .before .before .before .before .before .before .before .before .before .before .before .before .before .before .before .slice-known .given j) in
+    let f = found-is (a .t .now) (a .n) _ _ _ (sym (c .before .before .before .before .before .before .before .before .before .before .before .find-refreshed .ensures) ∙ c .before .before .before .before .before .before .before .before .before .i .given .1) in
+    law.refresh-end (a .t .now) bytes (z .pre .0) (a .n) (z .pre .1) (a .s) 0 (questionOf (a .d .now) (a .q)) (a .o) (f .0) (f .1) _ (f .2) (c .before .before .before .before .before .if1 .taken) _ (c .before .before .before .end-entry .ensures) _ (c .served .ensures)
 
 granted-lease-requires : tie.Need-granted-lease-requires
 granted-lease-requires c κs = search needs
@@ -49,35 +54,61 @@ get32-requires : tie.Need-get32-requires
 get32-requires c κs = search needs
 
 renew-at-requires : tie.Need-renew-at-requires
-renew-at-requires c κs = search needs
+renew-at-requires c κs =
+    let z = c .before .before .before .before .before .before .before .before .before .before .before .before .before .before .before in
+    let a = z .args in
+    let bytes : Bytes (a .t .now) = λ j. omega (arith, c .before .before .before .before .before .before .before .before .before .before .before .before .before .before .slice-known .given j) in
+    let f = found-is (a .t .now) (a .n) _ _ _ (sym (c .before .before .before .before .before .before .before .before .before .before .find-refreshed .ensures) ∙ c .before .before .before .before .before .before .before .before .i .given .1) in
+    omega (arith, z .pre .1, f .1)
+
+served-requires-2 : tie.Need-served-requires-2
+served-requires-2 c κs = search needs
+
+enum-told : tie.Need-enum-told
+enum-told c = search needs
 
 served-requires-3 : tie.Need-served-requires-3
 served-requires-3 c κs = search needs
+
+same-length-2 : tie.Need-same-length-2
+same-length-2 c = search needs
+
+returns-2 : tie.Need-returns-2
+returns-2 c =
+    let z = c .before .before .before .before .before .before .before .before .before .before .before .before .before .before .before .before .before .before .before in
+    let a = z .args in
+    let bytes : Bytes (a .t .now) = λ j. omega (arith, c .before .before .before .before .before .before .before .before .before .before .before .before .before .before .before .before .before .before .slice-known .given j) in
+    let f = found-is (a .t .now) (a .n) _ _ _ (sym (c .before .before .before .before .before .before .before .before .before .before .before .before .before .before .find-refreshed .ensures) ∙ c .before .before .before .before .before .before .before .before .before .before .before .before .i .given .1) in
+    law.refresh-renew (a .t .now) bytes (z .pre .0) (a .n) (z .pre .1) (a .s) 0 (questionOf (a .d .now) (a .q)) (a .o) (f .0) (f .1) _ (f .2) (c .before .before .before .before .before .before .before .before .if1 .left) _ _ (c .before .before .before .before .before .before .before .granted-lease .ensures) (c .before .before .before .before .get32 .ensures) _ (c .before .before .before .renew-at .ensures) _ (c .served2 .ensures)
 
 same-length-3 : tie.Need-same-length-3
 same-length-3 c = search needs
 
 returns-3 : tie.Need-returns-3
 returns-3 c =
-    let a = c .before .before .before .before .before .before .before .before .before .before .before .before .before .before .before .before .args in
-    law.refresh-renew (a .t .now) (λ j. omega (arith, c .before .before .before .before .before .before .before .before .before .before .before .before .before .before .before .slice-known .given j)) (c .before .before .before .before .before .before .before .before .before .before .before .before .before .before .before .before .pre .0) (a .n) (c .before .before .before .before .before .before .before .before .before .before .before .before .before .before .before .before .pre .1) (a .s) 0 (questionOf (a .d .now) (a .q)) (a .o) (c .before .before .before .before .before .before .before .before .before .before .before .find-refreshed .ensures) (c .before .before .before .before .before .before .before .before .before .before .if1 .left) (c .before .before .before .before .before .before .before .before .if2 .left) _ _ (c .before .before .before .before .before .before .before .granted-lease .ensures)
-    (c .before .before .before .before .get32 .ensures) _ (c .before .before .before .renew-at .ensures) _ (c .served3 .ensures)
+    let z = c .before .before .before .before .before .before .before .before in
+    let a = z .args in
+    let bytes : Bytes (a .t .now) = λ j. omega (arith, c .before .before .before .before .before .before .before .slice-known .given j) in
+    let f = nothing-is (a .t .now) (a .n) _ (sym (c .before .before .before .find-refreshed .ensures) ∙ c .before .enum-told .given .1) in
+    law.refresh-none (a .t .now) bytes (z .pre .0) (a .n) (z .pre .1) (a .s) 0 (questionOf (a .d .now) (a .q)) (a .o) refl f _ (c .served3 .ensures)
 
 pub serve-refresh-spec : {M : Type 1} → statement M
 serve-refresh-spec =
     tie.close
     (tie.spec
     find-refreshed-requires
+    enum-known-i
+    end-entry-requires
     served-requires
     same-length
     returns
-    end-entry-requires
-    served-requires-2
-    same-length-2
-    returns-2
     granted-lease-requires
     get32-requires
     renew-at-requires
+    served-requires-2
+    enum-told
     served-requires-3
+    same-length-2
+    returns-2
     same-length-3
     returns-3)

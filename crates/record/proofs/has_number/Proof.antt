@@ -28,11 +28,11 @@ in-use-requires c κs = search needs
 
 returns : tie.Need-returns
 unfolding holdingAt readEntry
-returns c = rw (← c .before .before .before .get64 .ensures, eq-eqb _ _ (c .before .before .if1 .taken), and-true) (c .in-use .ensures)
+returns c = rw (← c .before .before .before .before .get64 .ensures, eq-eqb _ _ (c .before .before .if1 .taken), and-true) (c .in-use .ensures)
 
 returns-2 : tie.Need-returns-2
 unfolding holdingAt readEntry
-returns-2 c = rw (← c .before .get64 .ensures, ne-eqb _ _ (c .if1 .left)) (sym (and-false (inUse (getD (c .before .before .before .args .t .now) (c .before .before .before .args .a) 0))))
+returns-2 c = rw (← c .before .before .get64 .ensures, ne-eqb _ _ (c .if1 .left)) (sym (and-false (inUse (getD (c .before .before .before .before .args .t .now) (c .before .before .before .before .args .a) 0))))
 
 pub has-number-spec : {M : Type 1} → statement M
 has-number-spec =

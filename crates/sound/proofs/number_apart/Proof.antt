@@ -16,11 +16,11 @@ use Rattle.sound.proofs.number_apart.Statement.{statement}
 use Rattle.sound.proofs.number_apart.Tie as tie
 use Rattle.sound.proofs.number_apart.Reads as reads
 use Rattle.sound.proofs.number_apart.Lts as lts
-use Rattle.octets.proofs.get64.Reads as get64-reads
+use Rattle.record.proofs.number_at.Reads as number-at-reads
 use Rattle.record.proofs.has_number.Reads as has-number-reads
 
 abbrev Inv-loop : tie.InvT-loop
-Inv-loop t from i c number j₀ j = (j ≤ i) × (every (λ h. not (numbered number h)) (heldTo t j) ≡ true)
+Inv-loop t from i c number j₀ j = (j ≤ i) × (every (λ h. not (numbered (number .0) h)) (heldTo t j) ≡ true)
 
 abbrev μ-loop : tie.MeasureT-loop
 μ-loop t from i c number j₀ j = i - j
@@ -31,15 +31,12 @@ returns c =
     let e : z .args .from ≡ z .args .i = omega arith in
     sym (rw e at (z .pre .4))
 
-add-get64 : tie.Need-add-get64 Inv-loop μ-loop
-add-get64 c = search needs
-
-get64-requires : tie.Need-get64-requires Inv-loop μ-loop
-get64-requires c κs = search needs
+number-at-requires : tie.Need-number-at-requires Inv-loop μ-loop
+number-at-requires c κs = search needs
 
 loop-holds : tie.Need-loop-holds Inv-loop μ-loop
 unfolding holdingAt readEntry
-loop-holds c = (search needs, rw (c .get64 .ensures) (c .before .before .before .pre .4))
+loop-holds c = (search needs, rw (c .number-at .ensures) (c .before .before .before .pre .4))
 
 mul-has-number : tie.Need-mul-has-number Inv-loop μ-loop
 mul-has-number c = search needs
@@ -55,8 +52,8 @@ unfolding holdingAt readEntry
 returns-2 c =
     let l = c .before .before .before .loop in
     let a = c .before .before .before .before .before .before .before .args in
-    let s = same-number (inUse (getD (a .t .now) (slotAt (l .j)) 0)) (holdingAt (a .t .now) (slotAt (l .j))) (c .before .before .before .before .get64 .result) (sym (c .before .has-number .ensures) ∙ c .if2 .taken) in
-    rw (← (c .before .before .before .before .get64 .ensures)) (sym (every-no (a .t .now) (a .i) (l .j) (omega arith) (λ h. not (numbered (c .before .before .before .before .get64 .result) h)) s))
+    let s = same-number (inUse (getD (a .t .now) (slotAt (l .j)) 0)) (holdingAt (a .t .now) (slotAt (l .j))) (c .before .before .before .before .number-at .result .0) (sym (c .before .has-number .ensures) ∙ c .if2 .taken) in
+    rw (← (c .before .before .before .before .number-at .ensures)) (sym (every-no (a .t .now) (a .i) (l .j) (omega arith) (λ h. not (numbered (c .before .before .before .before .number-at .result .0) h)) s))
 
 add-j : tie.Need-add-j Inv-loop μ-loop
 add-j c = search needs
@@ -68,14 +65,14 @@ loop-again : tie.Need-loop-again Inv-loop μ-loop
 loop-again c =
     let l = c .before .before .before .loop in
     let a = c .before .before .before .before .before .before .before .args in
-    let s = other-number (inUse (getD (a .t .now) (slotAt (l .j)) 0)) (holdingAt (a .t .now) (slotAt (l .j))) (c .before .before .before .before .get64 .result) (sym (c .before .has-number .ensures) ∙ c .if2 .left) in
-    (omega arith, every-yes (a .t .now) (l .j) (λ h. not (numbered (c .before .before .before .before .get64 .result) h)) s (l .inv .1))
+    let s = other-number (inUse (getD (a .t .now) (slotAt (l .j)) 0)) (holdingAt (a .t .now) (slotAt (l .j))) (c .before .before .before .before .number-at .result .0) (sym (c .before .has-number .ensures) ∙ c .if2 .left) in
+    (omega arith, every-yes (a .t .now) (l .j) (λ h. not (numbered (c .before .before .before .before .number-at .result .0) h)) s (l .inv .1))
 
 returns-3 : tie.Need-returns-3 Inv-loop μ-loop
 unfolding holdingAt readEntry
 returns-3 c =
     let e : c .before .loop .j ≡ c .before .before .before .before .before .args .i = omega arith in
-    rw (← (c .before .before .get64 .ensures)) (sym (rw e at (c .before .loop .inv .1)))
+    rw (← (c .before .before .number-at .ensures)) (sym (rw e at (c .before .loop .inv .1)))
 
 pub number-apart-spec : {M : Type 1} → statement M
 number-apart-spec =
@@ -84,8 +81,7 @@ number-apart-spec =
     Inv-loop
     μ-loop
     returns
-    add-get64
-    get64-requires
+    number-at-requires
     loop-holds
     mul-has-number
     add-has-number

@@ -13,7 +13,7 @@ use Rattle.model.specs.Sound.{sameNumber}
 use Rattle.model.proofs.ListLaws.{noTwo-nil}
 use Rattle.layout.specs.Held.{holdingAt, heldTo}
 use Rattle.layout.proofs.HeldLaws.{held-none, held-miss}
-use Rattle.sound.proofs.FitLaws.{numbers-yes, numbers-no}
+use Rattle.sound.proofs.HolderLaws.{numbers-yes, numbers-no}
 use Rattle.sound.proofs.FirstLaws.{Firsts, numberKey, number-ends, firsts-none, firsts-free, firsts-held, none-numbered}
 use Rattle.sound.proofs.numbers_apart.Statement.{statement}
 use Rattle.sound.proofs.numbers_apart.Tie as tie

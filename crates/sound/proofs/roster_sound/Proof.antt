@@ -8,7 +8,7 @@ use lib.ListN.{length}
 use Rattle.model.specs.Calls.{goodRoster}
 use Rattle.layout.specs.Shape.{all}
 use Rattle.layout.proofs.LayoutLaws.{lines-given}
-use Rattle.sound.proofs.FitLaws.{too-long}
+use Rattle.sound.proofs.HolderLaws.{too-long}
 use Rattle.sound.proofs.roster_sound.Statement.{statement}
 use Rattle.sound.proofs.roster_sound.Tie as tie
 use Rattle.sound.proofs.roster_sound.Reads as reads

@@ -1,4 +1,4 @@
--- `sound::sound` meets its contract: the length, then each record by itself, then the rules of them together. Assumes nothing.
+-- `sound::sound` meets its contract: the length, then each record by itself, then the rules of several. Assumes nothing.
 use mathlib.Core.Path.{sym, _∙_}
 use native.Mathlib.Omega.{arith}
 use borrow.Author.Needs.{needs}
@@ -8,7 +8,7 @@ use Rattle.model.proofs.ListLaws.{never}
 use Rattle.model.proofs.CallLaws.{length-facts}
 use Rattle.layout.proofs.LengthLaws.{right-length}
 use Rattle.layout.proofs.SoundLaws.{sound-is, not-sound}
-use Rattle.sound.proofs.FitLaws.{good-shape, good-entries, not-good}
+use Rattle.sound.proofs.HolderLaws.{good-shape, good-entries, not-good}
 use Rattle.sound.proofs.sound.Statement.{statement}
 use Rattle.sound.proofs.sound.Tie as tie
 use Rattle.sound.proofs.sound.Reads as reads

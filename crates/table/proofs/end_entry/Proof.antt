@@ -8,12 +8,16 @@ use Rattle.table.proofs.end_entry.Reads as reads
 use Rattle.table.proofs.end_entry.Lts as lts
 use Rattle.octets.proofs.clear.Reads as clear-reads
 use Rattle.octets.proofs.put8.Reads as put8-reads
+use Rattle.record.proofs.kind_byte.Reads as kind-byte-reads
 
 mul-a : tie.Need-mul-a
 mul-a c = search needs
 
 add-a : tie.Need-add-a
 add-a c = search needs
+
+kind-byte-requires : tie.Need-kind-byte-requires
+kind-byte-requires c κs = search needs
 
 put8-requires : tie.Need-put8-requires
 put8-requires c κs = search needs
@@ -29,8 +33,8 @@ same-length c = search needs
 
 returns : tie.Need-returns
 returns c =
-    rw (c .before .before .clear .ensures, c .before .before .before .before .before .before .put8 .ensures) (law.free-bytes _ _ (omega arith))
+    rw (c .before .before .clear .ensures, c .before .before .before .before .before .before .put8 .ensures, c .before .before .before .before .before .before .before .kind-byte .ensures) (law.free-bytes _ _ (omega arith))
 
 pub end-entry-spec : {M : Type 1} → statement M
 end-entry-spec =
-    tie.close (tie.spec mul-a add-a put8-requires add-clear clear-requires same-length returns)
+    tie.close (tie.spec mul-a add-a kind-byte-requires put8-requires add-clear clear-requires same-length returns)
