@@ -1,5 +1,5 @@
 // Document 01, "The clock": readings, the step between two places, the clock moved on, and ages.
-// The clock moves in `stepped` alone, and other crates move it by `advance` or `advanced`.
+// The clock moves in `stepped` alone. It is lent to `advance`; other crates call `advanced`, which lends it a copy.
 ghost use mathlib.Core.Path.{_≡_};
 ghost use Prim.Native.Nat.{_<_};
 ghost use mathlib.Core.Bool.{true};

@@ -1,3 +1,4 @@
+pub mod Fields
 pub mod NumberLaws
 pub mod ListLaws
 pub mod SlotLaws

@@ -8,7 +8,8 @@ use mathlib.Core.List.{List, [], _∷_, _++_, append-assoc, append-nil}
 use lib.ListN.{length, take, drop, getD, set, length-append, length-take, length-drop, take-append-drop, drop-of-length-le, replicate}
 use lib.Seq.{drop-cons, take-suc, getD-drop, getD-take, getD-at, take-at, drop-at, getD-append-add, length-take-le, drop-drop, set-split, set-at, take-length}
 use native.Mathlib.Numerals.{add-one}
-use Rattle.model.specs.Numbers.{bigEndian, Bytes, bytesOf, part, splice, encode, total, offset, writes}
+use Rattle.model.specs.Numbers.{bigEndian, Bytes, bytesOf, part, splice, encode}
+use Rattle.model.proofs.Fields.{width, offset, writes}
 
 pub more : (i : ℕ) {r b : ℕ} → r < 256 ^ i → b < 256 → r * 256 + b < 256 ^ suc i
 more i {r} {b} h l = rw pow-suc (omega arith)
@@ -120,7 +121,7 @@ big-skip vs s k at m e =
     big-ext (vs ++ s) s (k + at) at m
     (λ i l. let r : k + at + i ≡ length vs + (at + i) = omega arith in rw (r, getD-append-add))
 
-pub length-encode : (fs : List (ℕ × ℕ)) → length (encode fs) ≡ total fs
+pub length-encode : (fs : List (ℕ × ℕ)) → length (encode fs) ≡ width fs
 unfolding encode
 length-encode [] = refl
 length-encode (f ∷ fs) = rw (length-append, length-bytes, length-encode fs)
@@ -162,14 +163,14 @@ splice-splice at j k us vs s e h =
       append-assoc us vs (drop (at + (j + k)) s),
     )
 
-pub writes-eq : (fs : List (ℕ × ℕ)) (at : ℕ) (s : List ℕ) → at + total fs ≤ length s → writes fs at s ≡ splice at (total fs) (encode fs) s
+pub writes-eq : (fs : List (ℕ × ℕ)) (at : ℕ) (s : List ℕ) → at + width fs ≤ length s → writes fs at s ≡ splice at (width fs) (encode fs) s
 unfolding encode
 writes-eq [] at s h = sym (splice-none at s)
 writes-eq (f ∷ fs) at s h =
     let l : length (splice at (f .0) (bytesOf (f .0) (f .1)) s) ≡ length s =
     length-splice at (f .0) (bytesOf (f .0) (f .1)) s (length-bytes (f .0) (f .1)) (omega arith) in
     writes-eq fs (at + f .0) (splice at (f .0) (bytesOf (f .0) (f .1)) s) (omega arith)
-    ∙ splice-splice at (f .0) (total fs) (bytesOf (f .0) (f .1)) (encode fs) s (length-bytes (f .0) (f .1)) (omega arith)
+    ∙ splice-splice at (f .0) (width fs) (bytesOf (f .0) (f .1)) (encode fs) s (length-bytes (f .0) (f .1)) (omega arith)
 
 -- a store of one element is a write of one, and of one byte
 pub set-one : (s : List ℕ) (at x : ℕ) → at < length s → set s at x ≡ splice at 1 (x ∷ []) s

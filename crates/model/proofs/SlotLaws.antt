@@ -8,7 +8,8 @@ use mathlib.Core.List.{List, [], _∷_, _++_, append-assoc}
 use lib.ListN.{length, getD, replicate, length-append, length-replicate}
 use lib.Seq.{getD-at, take-at, drop-at}
 use lib.Dec.{eqb, lit<}
-use Rattle.model.specs.Numbers.{bigEndian, part, encode, offset}
+use Rattle.model.specs.Numbers.{bigEndian, part, encode}
+use Rattle.model.proofs.Fields.{offset}
 use Rattle.model.specs.Table.{Line, Entry, Slot, free, held, entryFields, kindOf, slotBytes, lineBytes, unusedLine, readLine, readEntry, readSlot}
 use Rattle.model.specs.Sound.{FitsEntry, FitsSlot, FitsLine}
 use Rattle.model.proofs.NumberLaws.{length-encode, big-one, big-skip, field-at}

@@ -31,19 +31,3 @@ splice at k vs s = take at s ++ (vs ++ drop (at + k) s)
 unfoldable pub encode : List (ℕ × ℕ) → List ℕ
 encode [] = []
 encode (f ∷ fs) = bytesOf (f .0) (f .1) ++ encode fs
-
--- how many bytes the fields take
-abbrev pub total : List (ℕ × ℕ) → ℕ
-total [] = 0
-total (f ∷ fs) = f .0 + total fs
-
--- where field i starts
-abbrev pub offset : List (ℕ × ℕ) → ℕ → ℕ
-offset [] i = 0
-offset (f ∷ fs) zero = 0
-offset (f ∷ fs) (suc i) = f .0 + offset fs i
-
--- the fields written one after the other from index at
-abbrev pub writes : List (ℕ × ℕ) → ℕ → List ℕ → List ℕ
-writes [] at s = s
-writes (f ∷ fs) at s = writes fs (at + f .0) (splice at (f .0) (bytesOf (f .0) (f .1)) s)

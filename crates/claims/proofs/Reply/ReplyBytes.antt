@@ -6,7 +6,8 @@ use mathlib.Core.List.{List, [], _∷_, _++_, append-assoc}
 use lib.ListN.{length, getD, take, drop, length-append, List·getD-append}
 use lib.Seq.{getD-append-add}
 use Rattle.model.specs.Lists.{flat}
-use Rattle.model.specs.Numbers.{Bytes, bigEndian, bytesOf, encode, offset}
+use Rattle.model.specs.Numbers.{Bytes, bigEndian, bytesOf, encode}
+use Rattle.model.proofs.Fields.{offset}
 use Rattle.model.specs.Query.{messageNumber, flagRD, qdcount, questionsEnd}
 use Rattle.model.specs.Serve.{Outcome}
 use Rattle.model.specs.Reply.{headerBytes, questionBytes, optBytes, optionBytes, replyBytes}
