@@ -51,6 +51,8 @@ impl Server for Oracle {
 
 #[cfg(feature = "linked")]
 pub use linked::Linked;
+#[cfg(feature = "before")]
+pub use linked::Before;
 #[cfg(feature = "bench")]
 pub use linked::Plain;
 
@@ -168,5 +170,11 @@ mod linked {
     server! {
         /// The plain C of bench/plain.c, its calls renamed.
         Plain: plain_make, plain_tick, plain_serve
+    }
+
+    #[cfg(feature = "before")]
+    server! {
+        /// An earlier archive, its calls renamed.
+        Before: before_make, before_tick, before_serve
     }
 }

@@ -1,4 +1,5 @@
-//! Times the same calls on three sides in one run: the library, the oracle and plain C.
+//! Times the same calls on all sides in one run: the library, the oracle, plain C and, with the feature
+//! `before`, an earlier archive of the library.
 //!
 //! ```text
 //! bench            1000 batches of about 100 us a side and workload
@@ -7,13 +8,21 @@
 //!
 //! Exits with 1 if the sides do not agree, before anything is timed or after.
 
+#[cfg(feature = "before")]
+use oracle::server::Before;
 use oracle::server::{Linked, Oracle, Plain, Server};
 use std::hint::black_box;
 use std::process::ExitCode;
 use std::time::{Duration, Instant};
 
-const SIDES: [(&str, &dyn Server); 3] =
-    [("library", &Linked), ("oracle", &Oracle), ("plain C", &Plain)];
+/// The library first: the others are what it is compared with.
+const SIDES: &[(&str, &dyn Server)] = &[
+    ("library", &Linked),
+    ("oracle", &Oracle),
+    ("plain C", &Plain),
+    #[cfg(feature = "before")]
+    ("before", &Before),
+];
 
 const SLOTS: [usize; 3] = [4, 16, 64];
 
@@ -257,7 +266,7 @@ fn agreed(call: Call, slots: usize) -> Result<Work, String> {
         Refresh(_) | Setup => drop(left.granted(call.questions(), answer.1 as usize)),
         DamagedDatagram | DamagedTable => assert!(left.table == given.table, "refused"),
     }
-    for (name, side) in SIDES {
+    for &(name, side) in SIDES {
         let mut work = given.clone();
         for _ in 0..2 {
             let same = work.run(side) == answer;
@@ -301,7 +310,10 @@ fn calls_in(batch_time: Duration, work: &mut Work, side: &dyn Server) -> u32 {
 
 /// Nanoseconds per call of each side: the least over the batches.
 fn timed(work: &mut Work, timing: &Timing) -> [f64; SIDES.len()] {
-    let calls = SIDES.map(|(_, side)| calls_in(timing.batch, work, side));
+    let mut calls = [0; SIDES.len()];
+    for (calls, (_, side)) in calls.iter_mut().zip(SIDES) {
+        *calls = calls_in(timing.batch, work, *side);
+    }
     let mut least = [f64::INFINITY; SIDES.len()];
     for round in 0..timing.batches {
         for turn in 0..SIDES.len() {
@@ -331,20 +343,17 @@ fn run(timing: &Timing) -> Result<(), String> {
         }
     }
     println!("answers, tables and replies: compared, equal on all sides\n");
-    let [library, oracle, plain] = SIDES.map(|(name, _)| name);
-    println!(
-        "{:<22} {:>5} {library:>10} {oracle:>10} {plain:>10} {:>15} {:>16}",
-        "workload", "slots", "library/oracle", "library/plain C"
-    );
+    let names = || SIDES.iter().map(|(name, _)| name);
+    let columns: String = names().map(|name| format!(" {name:>10}")).collect();
+    let ratios: String = names().skip(1).map(|name| format!("  library/{name}")).collect();
+    println!("{:<22} {:>5}{columns}{ratios}", "workload", "slots");
     for (slots, agreed) in all {
         let mut work = agreed.clone();
-        let [library, oracle, plain] = timed(&mut work, timing);
-        println!(
-            "{:<22} {slots:>5} {library:>10.0} {oracle:>10.0} {plain:>10.0} {:>15.2} {:>16.2}",
-            work.call.name(),
-            library / oracle,
-            library / plain
-        );
+        let least = timed(&mut work, timing);
+        let columns: String = least.iter().map(|ns| format!(" {ns:>10.0}")).collect();
+        let ratio = |(name, ns): (&&str, &f64)| format!("{:>1$.2}", least[0] / ns, name.len() + 10);
+        let ratios: String = names().zip(&least).skip(1).map(ratio).collect();
+        println!("{:<22} {slots:>5}{columns}{ratios}", work.call.name());
         if work.table != agreed.table || work.reply != agreed.reply {
             return Err(format!("{}, {slots} slots: changed by timed calls", work.call.name()));
         }
