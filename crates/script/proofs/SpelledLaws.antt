@@ -13,6 +13,7 @@ use Rattle.model.specs.Calls.{MakeCall, TickCall, ServeCall}
 use Rattle.model.proofs.NumberLaws.{big-lt, big-add, bytes-part}
 use Rattle.claims.specs.Tally.{Call, making, ticking, serving}
 use Rattle.claims.specs.Events.{Event, callOf, InRange, AllInRange}
+use Rattle.script.specs.Pin.{pinned, pinnedCalls}
 use Rattle.script.specs.Spelled.{kindAt, weekAt, secondAt, addressAt, portAt, randomAt, roomAt, sizeAt, bodyAt, nextAt, makeAt, tickAt, serveAt, callAt, callsFrom, callsIn}
 
 -- THE CALL of a record
@@ -152,3 +153,8 @@ spelled-range (e ∷ es) p = (p .0, spelled-range es (p .1))
 -- the calls made are those that a script's bytes spell: they are in range
 pub script-range : (s : List ℕ) → Bytes s → (es : List Event) → map callOf es ≡ callsIn s → AllInRange es
 script-range s bytes es e = spelled-range es (subst AllSpelled (sym e) (calls-range s bytes (length s) 0))
+
+-- A SCRIPT WRITTEN OUT spells its calls
+pub spelled-out : callsIn pinned ≡ pinnedCalls
+unfolding pinned pinnedCalls callsFrom callAt bigEndian part
+spelled-out = refl
