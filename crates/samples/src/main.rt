@@ -5,11 +5,11 @@
 //   T tick
 //   S serve   room: the reply buffer's length; body: the datagram
 //   D print the table
-// A call's line ends in a sum of the table's bytes.
+// The list is cut where the table's length changes and where the table is printed. Each piece is a script, which `script::run` carries out on
+// the lent part of the table; the lines are printed from its answers. A call's line ends in a sum of the table's bytes.
 ghost use Prim.Native.Nat.{_≤_, _<_};
 ghost use lib.ListN.{length};
-
-const HEAD: usize = 39;
+ghost use Rattle.script.specs.Spelled.{nextAt};
 
 fn say(word: &[u8]) {
     io::write_all(1, word);
@@ -53,83 +53,58 @@ fn say_bytes(s: &[u8]) {
     say_rest(s, from);
 }
 
-// The sum with one byte more.
-fn more(c: u64, b: u8) -> u64
-    requires { ⌜ c < 4294967291 ⌝ }
-    ensures { λ r. ⌜ r < 4294967291 ⌝ }
+// A call's line, from its answer: number, freed or length, the whole reply buffer, the sum of the table.
+fn say_answer(kind: u8, answer: &[u8])
+    requires { ⌜ 12 ≤ length (now answer) ⌝ }
 {
-    (c * 257 + b as u64) % 4294967291
-}
-
-// A sum that every byte and its place go into.
-fn sum(t: &[u8]) -> u64 {
-    let mut c: u64 = 0;
-    let mut i: usize = 0;
-    while i < t.len() {
-        c = more(c, t[i]);
-        i += 1;
+    let number = octets::get32(answer, 0) as u64;
+    let gave = octets::get32(answer, 4) as u64;
+    let sum = octets::get32(answer, 8) as u64;
+    if kind == b'M' {
+        say(b"make");
+        say_number(number);
     }
-    c
-}
-
-fn end_line(t: &[u8]) {
-    say_number(sum(t));
+    if kind == b'T' {
+        say(b"tick");
+        say_number(number);
+        say_number(gave);
+    }
+    if kind == b'S' {
+        say(b"serve");
+        say_number(number);
+        say_number(gave);
+        say_bytes(&answer[12..]);
+    }
+    say_number(sum);
     say(b"\n");
 }
 
-fn room(head: &[u8]) -> u16
-    requires { ⌜ 39 ≤ length (now head) ⌝ }
-{
-    octets::get16(head, 35)
+// A line for each call of a piece.
+fn say_answers(s: &[u8], answers: &[u8]) {
+    let mut at: usize = 0;
+    let mut to: usize = 0;
+    while script::whole(s, at) {
+        let n = script::answer_length(s, at);
+        if answers.len() - to < n {
+            return;
+        }
+        let end = to + n;
+        if n >= 12 {
+            say_answer(s[at], &answers[to..end]);
+        }
+        to = end;
+        at = script::next(s, at);
+    }
 }
 
-fn make(head: &[u8], roster: &[u8], t: &mut [u8])
-    requires { ⌜ 39 ≤ length (now head) ⌝ }
-{
-    let number = llq::llq_make(octets::get32(head, 1), octets::get32(head, 5), t, roster);
-    say(b"make");
-    say_number(number as u64);
-    end_line(t);
-}
-
-fn tick(head: &[u8], t: &mut [u8])
-    requires { ⌜ 39 ≤ length (now head) ⌝ }
-{
-    let r = llq::llq_tick(octets::get32(head, 1), octets::get32(head, 5), t);
-    say(b"tick");
-    say_number(r.number as u64);
-    say_number(r.freed as u64);
-    end_line(t);
-}
-
-// The whole lent reply buffer is printed, the bytes beyond the reply too.
-fn serve_into(head: &[u8], datagram: &[u8], t: &mut [u8], reply: &mut [u8])
-    requires { ⌜ 39 ≤ length (now head) ⌝ }
-{
-    let r = llq::llq_serve(
-        octets::get32(head, 1),
-        octets::get32(head, 5),
-        octets::get64(head, 9),
-        octets::get64(head, 17),
-        octets::get16(head, 25),
-        octets::get64(head, 27),
-        datagram,
-        t,
-        reply,
-    );
-    say(b"serve");
-    say_number(r.number as u64);
-    say_number(r.length as u64);
-    say_bytes(reply);
-    end_line(t);
-}
-
-fn serve(head: &[u8], datagram: &[u8], t: &mut [u8])
-    requires { ⌜ 39 ≤ length (now head) ⌝ }
-{
-    let mut reply = [0xAAu8; 1600];
-    let n = io::count(room(head) as isize, &reply);
-    serve_into(head, datagram, t, &mut reply[..n]);
+// A piece on the lent table.
+fn run(s: &[u8], t: &mut [u8], answers: &mut [u8]) {
+    let r = script::run(s, t, answers);
+    if r.done {
+        say_answers(s, answers);
+    } else {
+        say(b"the answers do not fit\n");
+    }
 }
 
 fn dump(t: &[u8]) {
@@ -138,57 +113,66 @@ fn dump(t: &[u8]) {
     say(b"\n");
 }
 
-// One record on the lent table. A record of another kind does nothing.
-fn call(head: &[u8], body: &[u8], t: &mut [u8])
-    requires { ⌜ 39 ≤ length (now head) ⌝ }
-{
-    match head[0] {
-        b'M' => make(head, body, t),
-        b'T' => tick(head, t),
-        b'S' => serve(head, body, t),
-        b'D' => dump(t),
-        _ => {}
-    }
-}
-
 // The length of the table that is lent: a making sets it, and it stays for the calls after.
-fn lent(head: &[u8], before: u16) -> u16
-    requires { ⌜ 39 ≤ length (now head) ⌝ }
+fn lent(s: &[u8], at: usize, before: u16) -> u16
+    requires { ⌜ nextAt (now s) at ≤ length (now s) ⌝ }
 {
-    if head[0] == b'M' {
-        return room(head);
+    if s[at] == b'M' {
+        return script::room(s, at);
     }
     before
 }
 
-fn step(head: &[u8], body: &[u8], table: &mut [u8], before: u16) -> u16
-    requires { ⌜ 39 ≤ length (now head) ⌝ }
+// A piece ends before a table to print, and before a making of another length.
+fn cuts(s: &[u8], at: usize, n: u16) -> bool
+    requires { ⌜ nextAt (now s) at ≤ length (now s) ⌝ }
 {
-    let after = lent(head, before);
-    let n = io::count(after as isize, table);
-    call(head, body, &mut table[..n]);
-    after
+    s[at] == b'D' || lent(s, at, n) != n
 }
 
-// Record by record, to the first that is not whole.
-fn run(s: &[u8], table: &mut [u8]) {
+// Where the piece ends whose first record ends at index from.
+fn piece(s: &[u8], from: usize, n: u16) -> usize
+    requires { ⌜ from ≤ length (now s) ⌝ }
+    ensures { λ r. ⌜ (from ≤ r) × (r ≤ length (now (s .entry))) ⌝ }
+{
+    let mut at = from;
+    while script::whole(s, at) {
+        if cuts(s, at, n) {
+            return at;
+        }
+        at = script::next(s, at);
+    }
+    at
+}
+
+// The piece whose first record is at index at, on the lent part of the table; where it ends.
+fn run_piece(s: &[u8], at: usize, n: u16, table: &mut [u8], answers: &mut [u8]) -> usize
+    requires { ⌜ nextAt (now s) at ≤ length (now s) ⌝ }
+    ensures { λ r. ⌜ (at < r) × (r ≤ length (now (s .entry))) ⌝ }
+{
+    let k = io::count(n as isize, table);
+    if s[at] == b'D' {
+        dump(&table[..k]);
+    }
+    let end = piece(s, script::next(s, at), n);
+    run(&s[at..end], &mut table[..k], answers);
+    end
+}
+
+// Piece by piece, to the first record that is not whole.
+fn run_pieces(s: &[u8], table: &mut [u8], answers: &mut [u8]) {
     let mut at: usize = 0;
     let mut n: u16 = 0;
-    while s.len() - at >= HEAD {
-        let body = at + HEAD;
-        let size = octets::get16(s, at + 37) as usize;
-        if s.len() - body < size {
-            return;
-        }
-        let end = body + size;
-        n = step(&s[at..body], &s[body..end], table, n);
-        at = end;
+    while script::whole(s, at) {
+        n = lent(s, at, n);
+        at = run_piece(s, at, n, table, answers);
     }
 }
 
 fn main() {
-    let mut script = io::large_buffer();
-    let n = io::read_full(0, &mut script);
+    let mut list = io::large_buffer();
+    let n = io::read_full(0, &mut list);
     let mut table = [0xEEu8; 20793];
-    run(&script[..n], &mut table);
+    let mut answers = io::large_buffer();
+    run_pieces(&list[..n], &mut table, &mut answers);
 }

@@ -1,0 +1,3 @@
+pub mod SpelledLaws
+pub mod AnswerLaws
+pub mod RanLaws

@@ -1,0 +1,4 @@
+pub mod Spelled
+pub mod Pin
+pub mod Answers
+pub mod Ran
