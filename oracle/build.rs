@@ -30,7 +30,8 @@ fn before() {
     let from = env::var("LLQ_BEFORE").expect("LLQ_BEFORE names the folder of an earlier libllq.a");
     println!("cargo:rerun-if-changed={from}/libllq.a");
     let folder = PathBuf::from(env::var_os("OUT_DIR").expect("cargo sets OUT_DIR"));
-    let renamed = ["make", "tick", "serve"].map(|call| format!("--redefine-sym=llq_{call}=before_{call}"));
+    let renamed =
+        ["make", "tick", "serve"].map(|call| format!("--redefine-sym=llq_{call}=before_{call}"));
     let archives = [PathBuf::from(from).join("libllq.a"), folder.join("libbefore.a")];
     run(Command::new("objcopy").args(renamed).args(archives));
     println!("cargo:rustc-link-search=native={}", folder.display());

@@ -49,10 +49,10 @@ impl Server for Oracle {
     }
 }
 
-#[cfg(feature = "linked")]
-pub use linked::Linked;
 #[cfg(feature = "before")]
 pub use linked::Before;
+#[cfg(feature = "linked")]
+pub use linked::Linked;
 #[cfg(feature = "bench")]
 pub use linked::Plain;
 
