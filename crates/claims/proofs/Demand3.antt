@@ -4,6 +4,7 @@ pub mod FreshTable
 pub mod TallyLaws
 pub mod CallSteps
 pub mod OptionReplies
+pub mod CallCounts
 use Prim.Native.Nat.{ℕ}
 use mathlib.Core.Path.{_≡_, sym, ap, _∙_, subst}
 use mathlib.Core.Bool.{true}
@@ -19,6 +20,7 @@ use Rattle.claims.proofs.AcceptedCalls.{make-accepted, other-than-one}
 use Rattle.claims.proofs.Relation.HoldingFacts.{within-limits}
 use Rattle.claims.proofs.Demand3.CallSteps.{Invariant, kept-agrees, make-kept, kept-step, number-step}
 use Rattle.claims.proofs.Demand3.OptionReplies.{replied}
+use Rattle.claims.proofs.Demand3.CallCounts.{counted-step, refused-step}
 
 replied-step : (size : ℕ) (b : List ℕ) (y : Tally) (e : Event) → InRange (callOf e) → Invariant size b y → Happens model b e → Replied e y
 replied-step size b y (made c k after) range x h = tt
@@ -37,6 +39,8 @@ step size b y e g range x h =
       agrees = kept-agrees w;
       limits = within-limits (w .table) (tallyAfter size y (callOf e)) (w .related);
       replied = replied-step size b y e range x h;
+      counted = counted-step size b y e x h;
+      refused = refused-step b e h;
     }
 
 pub along : (size : ℕ) (b : List ℕ) (y : Tally) (es : List Event) → tableLength size ≡ true → AllInRange es → Invariant size b y → Trace model b es → Along size y es

@@ -13,8 +13,9 @@ use Rattle.model.specs.Rules.{holdings}
 use Rattle.model.specs.Sound.{SoundBytes}
 use Rattle.model.specs.Calls.{MakeCall, ServeCall}
 use Rattle.model.specs.Meets.{Server}
-use Rattle.claims.specs.Tally.{Tally, beginTally, tallyAfter, tallyBefore, tallyOutcome, judged, heldIn, lineOf, isSetup, isOf, Full, AtShare}
+use Rattle.claims.specs.Tally.{Tally, ticking, beginTally, tallyAfter, tallyBefore, tallyOutcome, judged, heldIn, lineOf, isSetup, isOf, Full, AtShare}
 use Rattle.claims.specs.Events.{Event, made, ticked, served, callOf, numberOf, tableOf, Happens, Trace, InRange, AllInRange, MakeInRange}
+use Rattle.claims.specs.Refusals.{BehindQuestions, lengthOf}
 
 -- a statement holds exactly if another does
 abbrev pub Exactly : Type 0 → Type 0 → Type 0
@@ -77,6 +78,18 @@ Replied (made c k after) y = Unit {0}
 Replied (ticked c k freed after) y = Unit {0}
 Replied (served c lent k size after left) y = k ≡ 0 → ReplyTold c left y
 
+-- WHAT A CALL RETURNS BESIDE ITS NUMBER: a tick how many entries it freed, a datagram how long its reply is, a making nothing
+abbrev pub countOf : Event → ℕ
+countOf (made c k after) = 0
+countOf (ticked c k freed after) = freed
+countOf (served c lent k size after left) = size
+
+-- of an answered call: the tally's holdings before a tick less those after it; 12 + questions + 11 + 22 for each option of the reply
+abbrev pub Counted : ℕ → Tally → Event → Type 0
+Counted size y (made c k after) = Unit {0}
+Counted size y (ticked c k freed after) = freed + length (tallyAfter size y (ticking c) .holdings) ≡ length (y .holdings)
+Counted size y (served c lent k bytes after left) = BehindQuestions (c .datagram) (λ at. bytes ≡ lengthOf (c .datagram) at)
+
 -- ONE CALL of the list, with the tally before it
 pub record Holds (size : ℕ) (before : Tally) (e : Event) : Type 0 where
   -- not found unsound
@@ -87,6 +100,9 @@ pub record Holds (size : ℕ) (before : Tally) (e : Event) : Type 0 where
   pub agrees : Agrees (tableOf e) (tallyAfter size before (callOf e))
   pub limits : WithinLimits (tallyAfter size before (callOf e))
   pub replied : Replied e before
+  -- an answered call's freed count or length is the one worked out, a refused call's is 0
+  pub counted : numberOf e ≡ 0 → Counted size before e
+  pub refused : numberOf e ≢ 0 → countOf e ≡ 0
 
 -- ALL ALONG the list
 abbrev pub Along : ℕ → Tally → List Event → Type 0

@@ -3,12 +3,13 @@
 -- length test, which `Reading` spells out.
 use Prim.Native.Nat.{ℕ, zero, suc, _+_, _-_, _*_, _/_, _%_, _≤_, _<_}
 use mathlib.Core.Path.{_≡_}
+use mathlib.Core.Bool.{cond}
 use mathlib.Core.List.{List, [], _∷_}
 use mathlib.Core.Logic.{_⊎_, _≢_}
 use lib.ListN.{length, getD}
 use Rattle.model.specs.Numbers.{Bytes, part}
+use Rattle.model.specs.Query.{matched}
 use Rattle.model.specs.Sound.{SoundBytes}
-use Rattle.model.specs.Reply.{replyOptions}
 use Rattle.model.specs.Calls.{MakeCall, TickCall, ServeCall}
 use Rattle.model.specs.Meets.{Server}
 use Rattle.claims.specs.Events.{MakeInRange, TickInRange, ServeInRange}
@@ -108,9 +109,10 @@ abbrev pub BehindQuestions : List ℕ → (ℕ → Type 0) → Type 0
 BehindQuestions d P = (at : ℕ) × (Starts d (two d 4) at × P at)
 
 -- 8: REPLY LONGER THAN THE LENT BUFFER OR THAN 1,472
--- 12 + questions + 11 + 22 for each option, of a datagram whose questions end at place `at`
+-- 12 + questions + 11 + 22 for each option, of a datagram whose questions end at place `at`: as many options as questions, or one where the count
+-- and length test fails
 abbrev pub lengthOf : List ℕ → ℕ → ℕ
-lengthOf d at = at + 11 + 22 * replyOptions d
+lengthOf d at = at + 11 + 22 * cond (matched d) (two d 4) 1
 
 pub data ReplyFault (d : List ℕ) (room at : ℕ) : Type 0 where
   overBuffer : room < lengthOf d at → ReplyFault d room at
