@@ -13,7 +13,7 @@ use Rattle.claims.specs.Reply.{ReplyClaim}
 use Rattle.claims.specs.Reading.{ReadsQueries}
 use Rattle.claims.specs.AnySound.{AnySound}
 use Rattle.claims.specs.LiveAge.{LiveAge}
-use Rattle.claims.specs.Numbers.{GrantedNumbers}
+use Rattle.claims.specs.GrantedNumbers.{GrantedNumbers}
 use Rattle.claims.specs.Repeats.{SetupRepeats, SetupTwice}
 use Rattle.claims.proofs.Refusals.{refusals}
 use Rattle.claims.proofs.Changes.{changes}
@@ -26,7 +26,7 @@ use Rattle.claims.proofs.Reply.{reply-claim}
 use Rattle.claims.proofs.Reading.{reads-queries}
 use Rattle.claims.proofs.AnySound.{any-sound}
 use Rattle.claims.proofs.LiveAge.{live-age}
-use Rattle.claims.proofs.Numbers.{granted-numbers}
+use Rattle.claims.proofs.GrantedNumbers.{granted-numbers}
 use Rattle.claims.proofs.Repeats.{setup-repeats, setup-twice}
 
 pub record Claims (s : Server) : Type 0 where

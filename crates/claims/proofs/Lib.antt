@@ -10,7 +10,7 @@ pub mod Samples
 pub mod Reply
 pub mod LiveAge
 pub mod Repeats
-pub mod Numbers
+pub mod GrantedNumbers
 pub mod Reading
 pub mod AnySound
 pub mod Impostors

@@ -8,7 +8,7 @@ use lib.ListN.{length}
 use lib.Dec.{eqb}
 use Rattle.model.specs.Lists.{keep}
 use Rattle.model.specs.Numbers.{bigEndian}
-use Rattle.model.specs.Query.{questionsEnd, qdcount, matched, question, llqOption}
+use Rattle.model.specs.Query.{qdcount, matched, question, llqOption}
 use Rattle.model.specs.Rules.{holdings}
 use Rattle.model.specs.Sound.{SoundBytes}
 use Rattle.model.specs.Calls.{MakeCall, ServeCall}
@@ -16,6 +16,7 @@ use Rattle.model.specs.Meets.{Server}
 use Rattle.claims.specs.Tally.{Tally, ticking, beginTally, tallyAfter, tallyBefore, tallyOutcome, judged, heldIn, lineOf, isSetup, isOf, Full, AtShare}
 use Rattle.claims.specs.Events.{Event, made, ticked, served, callOf, numberOf, tableOf, Happens, Trace, InRange, AllInRange, MakeInRange}
 use Rattle.claims.specs.Refusals.{BehindQuestions, lengthOf}
+use Rattle.claims.specs.Reply.{optionPlace}
 
 -- a statement holds exactly if another does
 abbrev pub Exactly : Type 0 → Type 0 → Type 0
@@ -37,17 +38,14 @@ abbrev pub WithinLimits : Tally → Type 0
 WithinLimits y = (a : ℕ) → heldIn (y .holdings) a ≤ lineOf (y .roster) a .limit
 
 -- OPTION i OF A REPLY'S BYTES to a datagram d: code 2, length 2, version 2, opcode 2, error 2, number 8, lease 4
-abbrev pub replyOption : List ℕ → ℕ → ℕ
-replyOption d i = questionsEnd d + 11 + 22 * i
-
 abbrev pub errorIn : List ℕ → List ℕ → ℕ → ℕ
-errorIn reply d i = bigEndian reply (replyOption d i + 8) 2
+errorIn reply d i = bigEndian reply (optionPlace d i + 8) 2
 
 abbrev pub numberIn : List ℕ → List ℕ → ℕ → ℕ
-numberIn reply d i = bigEndian reply (replyOption d i + 10) 8
+numberIn reply d i = bigEndian reply (optionPlace d i + 10) 8
 
 abbrev pub leaseIn : List ℕ → List ℕ → ℕ → ℕ
-leaseIn reply d i = bigEndian reply (replyOption d i + 18) 4
+leaseIn reply d i = bigEndian reply (optionPlace d i + 18) 4
 
 -- a new question: a well-formed setup that finds no holding in the tally
 pub record NewQuestion (c : ServeCall) (y : Tally) (i : ℕ) : Type 0 where
@@ -55,7 +53,7 @@ pub record NewQuestion (c : ServeCall) (y : Tally) (i : ℕ) : Type 0 where
   pub unheld : keep (isOf (c .sender) (question (c .datagram) i)) (y .holdings) ≡ []
 
 -- OPTION i IN THE TALLY y BEFORE IT, and in the reply
-pub record OptionTold (c : ServeCall) (reply : List ℕ) (i : ℕ) (before y : Tally) : Type 0 where
+pub record OptionReply (c : ServeCall) (reply : List ℕ) (i : ℕ) (before y : Tally) : Type 0 where
   -- told "full" exactly if a new question of an address at its limit, or at its share with every free slot reserved
   pub fullExactly : Exactly (errorIn reply (c .datagram) i ≡ 1) (NewQuestion c y i × Full y (c .sender .address))
   -- below its share never
@@ -68,15 +66,15 @@ pub record OptionTold (c : ServeCall) (reply : List ℕ) (i : ℕ) (before y : T
   pub limits : WithinLimits y
 
 -- an answered datagram's reply, with the tally before the call
-pub record ReplyTold (c : ServeCall) (reply : List ℕ) (before : Tally) : Type 0 where
-  pub options : matched (c .datagram) ≡ true → (i : ℕ) → i < qdcount (c .datagram) → OptionTold c reply i before (tallyBefore c before i)
+pub record DatagramReply (c : ServeCall) (reply : List ℕ) (before : Tally) : Type 0 where
+  pub options : matched (c .datagram) ≡ true → (i : ℕ) → i < qdcount (c .datagram) → OptionReply c reply i before (tallyBefore c before i)
   -- where the count and length test fails, the one option does not say full
   pub mismatch : matched (c .datagram) ≡ false → errorIn reply (c .datagram) 0 ≢ 1
 
 abbrev pub Replied : Event → Tally → Type 0
 Replied (made c k after) y = Unit {0}
 Replied (ticked c k freed after) y = Unit {0}
-Replied (served c lent k size after left) y = k ≡ 0 → ReplyTold c left y
+Replied (served c lent k size after left) y = k ≡ 0 → DatagramReply c left y
 
 -- WHAT A CALL RETURNS BESIDE ITS NUMBER: a tick how many entries it freed, a datagram how long its reply is, a making nothing
 abbrev pub countOf : Event → ℕ

@@ -14,5 +14,5 @@ pub mod Others
 pub mod LiveAge
 pub mod Reading
 pub mod AnySound
-pub mod Numbers
+pub mod GrantedNumbers
 pub mod SoundSamples

@@ -99,7 +99,7 @@ unfoldable pub freshNumber : ℕ → Counts → ℕ → ℕ
 freshNumber zero c r = 0
 freshNumber (suc k) c r = cond (eqb (r % 2 ^ 64) 0 || leb 1 (c (numbered (r % 2 ^ 64)))) (freshNumber k c (suc r)) (r % 2 ^ 64)
 
--- The same rule in plain words, which the search meets (model/proofs, FreshLaws; claims, Numbers).
+-- The same rule in plain words, which the search meets (model/proofs, FreshLaws; claims, GrantedNumbers).
 
 -- 0, or in use
 abbrev pub Taken : Counts → ℕ → Type 0

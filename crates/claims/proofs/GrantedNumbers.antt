@@ -5,7 +5,7 @@ use lib.ListN.{length}
 use Rattle.model.specs.Rules.{holdings}
 use Rattle.model.proofs.HoldingLaws.{entries-le}
 use Rattle.model.proofs.FreshLaws.{fresh-first}
-use Rattle.claims.specs.Numbers.{GrantedNumbers}
+use Rattle.claims.specs.GrantedNumbers.{GrantedNumbers}
 
 pub granted-numbers : GrantedNumbers
 granted-numbers t r s =
