@@ -6,6 +6,7 @@ pub mod Others
 pub mod Established
 pub mod Tick
 pub mod Demand3
+pub mod Definitions
 pub mod Samples
 pub mod Reply
 pub mod LiveAge
@@ -13,5 +14,6 @@ pub mod Repeats
 pub mod GrantedNumbers
 pub mod Reading
 pub mod AnySound
+pub mod CallBuilders
 pub mod Impostors
 pub mod Claims

@@ -1,11 +1,10 @@
 -- Claim 5, demand 3: one statement over every list of makings, datagrams and ticks on one table. Assumes nothing.
-use Prim.Native.Nat.{ℕ, zero, suc, _+_, _*_, _≤_, _<_}
+use Prim.Native.Nat.{ℕ, _+_, _≤_, _<_}
 use mathlib.Core.Path.{_≡_}
-use mathlib.Core.Bool.{Bool, true, false}
+use mathlib.Core.Bool.{true, false}
 use mathlib.Core.List.{List, [], _∷_, List·Permᴰ}
 use mathlib.Core.Logic.{_≢_}
 use lib.ListN.{length}
-use lib.Dec.{eqb}
 use Rattle.model.specs.Lists.{keep}
 use Rattle.model.specs.Numbers.{bigEndian}
 use Rattle.model.specs.Query.{qdcount, matched, question, llqOption}
@@ -14,7 +13,7 @@ use Rattle.model.specs.Sound.{SoundBytes}
 use Rattle.model.specs.Calls.{MakeCall, ServeCall}
 use Rattle.model.specs.Meets.{Server}
 use Rattle.claims.specs.Tally.{Tally, ticking, beginTally, tallyAfter, tallyBefore, tallyOutcome, judged, heldIn, lineOf, isSetup, isOf, Full, AtShare}
-use Rattle.claims.specs.Events.{Event, made, ticked, served, callOf, numberOf, tableOf, Happens, Trace, InRange, AllInRange, MakeInRange}
+use Rattle.claims.specs.Events.{Event, made, ticked, served, callOf, numberOf, tableOf, Happens, Trace, AllInRange, MakeInRange}
 use Rattle.claims.specs.Refusals.{BehindQuestions, lengthOf}
 use Rattle.claims.specs.Reply.{optionPlace}
 

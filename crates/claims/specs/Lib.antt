@@ -7,6 +7,7 @@ pub mod Established
 pub mod Tick
 pub mod Samples
 pub mod Pins
+pub mod CallBuilders
 pub mod Reply
 pub mod Impostors
 pub mod Repeats
