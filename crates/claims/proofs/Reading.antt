@@ -193,6 +193,8 @@ reads-queries d at good s fine =
     let r : llqOptions d ≡ map (optionAt d) (m .places) =
     ap (λ (x : ℕ). keep (llq d) (optionsFrom (suc (length d)) d (x + 11))) (sym z) ∙ m .read in
     record {
+      count = big-two d 4;
+      behind = sym z;
       questions = λ i p e l st n.
           let b : p ≡ questionStart d i = start-is d i p st in
           subst (λ (x : ℕ). QuestionRead d p e (questionAt d x)) b

@@ -16,4 +16,4 @@ sound-samples-hold = (refl, (refl, (refl, (refl, (refl, (refl, (refl, (refl, (re
 
 pub pinned : Pinned model
 unfolding model-definitions
-pinned = record { size = refl; made = refl; listed = refl; challenged = refl; acknowledged = refl }
+pinned = record { size = refl; made = refl; listed = refl; challenged = refl; acknowledged = refl; renewed = refl }

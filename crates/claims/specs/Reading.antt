@@ -1,4 +1,5 @@
--- Claim 8: what a query holds, told by the datagram's bytes: question i, LLQ option i, the count and length test. Assumes nothing.
+-- Claim 8: what a query holds, told by the datagram's bytes: QDCOUNT, where the questions end, question i, LLQ option i, the count and length
+-- test. Assumes nothing.
 use Prim.Native.Nat.{ℕ, _+_, _-_, _≤_, _<_}
 use mathlib.Core.Path.{_≡_}
 use mathlib.Core.Bool.{true}
@@ -6,7 +7,7 @@ use mathlib.Core.List.{List, [], _∷_}
 use mathlib.Core.Logic.{_≢_}
 use lib.ListN.{length, getD}
 use Rattle.model.specs.Numbers.{bigEndian}
-use Rattle.model.specs.Query.{Question, LlqOption, question, llqOption, matched}
+use Rattle.model.specs.Query.{Question, LlqOption, qdcount, questionsEnd, question, llqOption, matched}
 use Rattle.claims.specs.Refusals.{twoBytes, NameEnds, Starts, QuestionFault, OptFault}
 use Rattle.claims.specs.Demand3.{Exactly}
 
@@ -44,6 +45,8 @@ pub record Matching (d : List ℕ) (places : List ℕ) : Type 0 where
 
 -- A DATAGRAM whose OPT record is at place `at`
 pub record QueryRead (d : List ℕ) (at : ℕ) : Type 0 where
+  pub count : qdcount d ≡ twoBytes d 4
+  pub behind : questionsEnd d ≡ at
   pub questions : (i p e : ℕ) → i < twoBytes d 4 → Starts d i p → NameEnds d p e → QuestionRead d p e (question d i)
   pub places : List ℕ
   pub are : LlqPlaces d (at + 11) places
