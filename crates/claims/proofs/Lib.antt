@@ -1,4 +1,5 @@
 pub mod AcceptedCalls
+pub mod RosterGiven
 pub mod Relation
 pub mod Refusals
 pub mod Changes

@@ -1,3 +1,4 @@
+pub mod Roster
 pub mod Tally
 pub mod Events
 pub mod Demand3

@@ -119,21 +119,30 @@ establishedPin = clockPin 0x8A 8 ++ rosterPin ++ entryPin 6 0x0E 0x10 5 ++ freeP
 abbrev pub renewedPin : List ℕ
 renewedPin = clockPin 0x94 18 ++ rosterPin ++ entryPin 6 0x1C 0x20 18 ++ freePin ++ freePin ++ freePin
 
--- a roster of one line: kind 3, address 16 (192.0.2.9, mapped), share 1, limit 2
-abbrev pub linePin : List ℕ
-linePin = 3 ∷ 0 ∷ 0 ∷ 0 ∷ 0 ∷ 0 ∷ 0 ∷ 0 ∷ 0 ∷ 0 ∷ 0 ∷ 0xFF ∷ 0xFF ∷ 0xC0 ∷ 0 ∷ 0x02 ∷ 0x09 ∷ 1 ∷ 2 ∷ []
+-- a roster of two lines: kind 3, address 16 (2001:db8::5), share 0, limit 3; and address 192.0.2.9, mapped, share 1, limit 2
+abbrev pub rosterGiven : List ℕ
+rosterGiven =
+    3 ∷ 0x20 ∷ 0x01 ∷ 0x0D ∷ 0xB8 ∷ 0 ∷ 0 ∷ 0 ∷ 0 ∷ 0 ∷ 0 ∷ 0 ∷ 0 ∷ 0 ∷ 0 ∷ 0 ∷ 0x05 ∷ 0 ∷ 3
+    ∷ 3 ∷ 0 ∷ 0 ∷ 0 ∷ 0 ∷ 0 ∷ 0 ∷ 0 ∷ 0 ∷ 0 ∷ 0 ∷ 0xFF ∷ 0xFF ∷ 0xC0 ∷ 0 ∷ 0x02 ∷ 0x09 ∷ 1 ∷ 2 ∷ []
 
--- the table of one slot that it is made with, 633 bytes: the line stands first, 15 unused lines behind it
+-- its lines in a table
+abbrev pub firstPin : List ℕ
+firstPin = 3 ∷ 0x20 ∷ 0x01 ∷ 0x0D ∷ 0xB8 ∷ 0 ∷ 0 ∷ 0 ∷ 0 ∷ 0 ∷ 0 ∷ 0 ∷ 0 ∷ 0 ∷ 0 ∷ 0 ∷ 0x05 ∷ 0 ∷ 3 ∷ []
+
+abbrev pub secondPin : List ℕ
+secondPin = 3 ∷ 0 ∷ 0 ∷ 0 ∷ 0 ∷ 0 ∷ 0 ∷ 0 ∷ 0 ∷ 0 ∷ 0 ∷ 0xFF ∷ 0xFF ∷ 0xC0 ∷ 0 ∷ 0x02 ∷ 0x09 ∷ 1 ∷ 2 ∷ []
+
+-- the table of one slot that it is made with, 633 bytes: the lines stand first, in the order given, 14 unused lines behind them
 abbrev pub listedPin : List ℕ
 listedPin =
-    clockPin 0x82 0 ++ linePin ++ unusedPin ++ unusedPin ++ unusedPin ++ unusedPin ++ unusedPin ++ unusedPin ++ unusedPin ++ unusedPin ++ unusedPin ++ unusedPin ++ unusedPin
+    clockPin 0x82 0 ++ firstPin ++ secondPin ++ unusedPin ++ unusedPin ++ unusedPin ++ unusedPin ++ unusedPin ++ unusedPin ++ unusedPin ++ unusedPin ++ unusedPin ++ unusedPin
     ++ unusedPin ++ unusedPin ++ unusedPin ++ unusedPin ++ freePin
 
 -- a server makes, challenges, acknowledges and renews as written out; 8 bytes past each reply keep what they held
 pub record Pinned (s : Server) : Type 0 where
   pub size : length madePin ≡ 1593
   pub made : s .make makeCall (replicate 1593 0xEE) ≡ record { number = 0; table = madePin }
-  pub listed : s .make (record { week = 1; second = 2; roster = linePin }) (replicate 633 0xEE) ≡ record { number = 0; table = listedPin }
+  pub listed : s .make (record { week = 1; second = 2; roster = rosterGiven }) (replicate 633 0xEE) ≡ record { number = 0; table = listedPin }
   pub challenged : s .serve setupCall madePin (replicate 60 0xAA) ≡ record { number = 0; length = 52; table = pendingPin; reply = challenge ++ replicate 8 0xAA }
   pub acknowledged : s .serve responseCall pendingPin (replicate 60 0xAA)
       ≡ record { number = 0; length = 52; table = establishedPin; reply = acknowledgment ++ replicate 8 0xAA }

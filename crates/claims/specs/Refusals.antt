@@ -12,6 +12,7 @@ use Rattle.model.specs.Query.{matched}
 use Rattle.model.specs.Sound.{SoundBytes}
 use Rattle.model.specs.Calls.{MakeCall, TickCall, ServeCall}
 use Rattle.model.specs.Meets.{Server}
+use Rattle.claims.specs.Roster.{kindAt, shareAt, limitAt}
 use Rattle.claims.specs.Events.{MakeInRange, TickInRange, ServeInRange}
 
 -- number x is k where the condition holds, and otherwise as the rest says
@@ -119,12 +120,6 @@ pub data ReplyFault (d : List ℕ) (room at : ℕ) : Type 0 where
   overLimit : 1472 < lengthOf d at → ReplyFault d room at
 
 -- 9: ROSTER, of a table of n slots
-abbrev pub shareAt : List ℕ → ℕ → ℕ
-shareAt r i = getD r (19 * i + 17) 0
-
-abbrev pub limitAt : List ℕ → ℕ → ℕ
-limitAt r i = getD r (19 * i + 18) 0
-
 -- the shares of the first m records
 abbrev pub shareTotal : List ℕ → ℕ → ℕ
 shareTotal r zero = 0
@@ -133,7 +128,7 @@ shareTotal r (suc m) = shareTotal r m + shareAt r m
 pub data RosterFault (n : ℕ) (r : List ℕ) : Type 0 where
   notWhole : ((m : ℕ) → length r ≢ 19 * m) → RosterFault n r
   tooMany : 19 * 16 < length r → RosterFault n r
-  otherKind : (i : ℕ) → 19 * i < length r → getD r (19 * i) 0 ≢ 3 → RosterFault n r
+  otherKind : (i : ℕ) → 19 * i < length r → kindAt r i ≢ 3 → RosterFault n r
   shareOverLimit : (i : ℕ) → 19 * i < length r → limitAt r i < shareAt r i → RosterFault n r
   limitZero : (i : ℕ) → 19 * i < length r → limitAt r i < 1 → RosterFault n r
   limitOver : (i : ℕ) → 19 * i < length r → 64 < limitAt r i → RosterFault n r

@@ -11,7 +11,8 @@ use Rattle.model.specs.Table.{Line}
 use Rattle.model.specs.Rules.{Holding}
 use Rattle.model.specs.Serve.{Sender, Outcome}
 use Rattle.model.specs.Reply.{replyLength}
-use Rattle.model.specs.Calls.{MakeCall, TickCall, ServeCall, refusal, rosterLines, tableLength, goodRoster}
+use Rattle.model.specs.Calls.{MakeCall, TickCall, ServeCall, refusal, tableLength, goodRoster}
+use Rattle.claims.specs.Roster.{linesGiven}
 
 -- the tally (document 01's term): a clock, n, the roster and a list of holdings
 pub record Tally : Type 0 where
@@ -261,7 +262,8 @@ tallyBefore c y (suc i) = optionTally (c .sender) (c .random) (question (c .data
 abbrev pub tallyOutcome : ServeCall → Tally → ℕ → Outcome
 tallyOutcome c y i = optionOutcome (c .sender) (c .random) (question (c .datagram) i) (llqOption (c .datagram) i) (tallyBefore c y i)
 
--- the number that a call's arguments and the table's length call for, any but "table unsound"
+-- the number that a call's arguments and the table's length call for, any but "table unsound". Its conditions, that of the roster (`goodRoster`)
+-- too, are the model's: claim 1 spells out each (`Refusals`, for the roster `RosterFault`)
 unfoldable pub judged : ℕ → Call → ℕ
 judged size (making c) =
     refusal ((1, not (tableLength size)) ∷ (2, leb 1024 (c .week) || leb 604800 (c .second)) ∷ (9, not (goodRoster ((size - 313) / 320) (c .roster))) ∷ [])
@@ -278,10 +280,10 @@ judged size (serving c) =
     ∷ (8, ltb (c .room) (replyLength d) || ltb 1472 (replyLength d))
     ∷ [])
 
--- an answered making begins it anew: the reading's place, count 0, n by the buffer's length, the roster given, no holdings
+-- an answered making begins it anew: the reading's place, count 0, n by the buffer's length, the roster given, in its order, no holdings
 abbrev pub beginTally : ℕ → MakeCall → Tally
 beginTally size c =
-    record { place = c .week * 604800 + c .second; running = 0; n = (size - 313) / 320; roster = rosterLines (c .roster); holdings = [] }
+    record { place = c .week * 604800 + c .second; running = 0; n = (size - 313) / 320; roster = linesGiven (c .roster); holdings = [] }
 
 abbrev pub doneTally : ℕ → Tally → Call → Tally
 doneTally size y (making c) = beginTally size c
