@@ -15,6 +15,7 @@ use Rattle.claims.specs.AnySound.{AnySound}
 use Rattle.claims.specs.LiveAge.{LiveAge}
 use Rattle.claims.specs.GrantedNumbers.{GrantedNumbers}
 use Rattle.claims.specs.Repeats.{SetupRepeats, SetupTwice}
+use Rattle.claims.specs.StoredNames.{StoredNames}
 use Rattle.claims.proofs.Refusals.{refusals}
 use Rattle.claims.proofs.Changes.{changes}
 use Rattle.claims.proofs.Others.{keeps-others}
@@ -28,6 +29,7 @@ use Rattle.claims.proofs.AnySound.{any-sound}
 use Rattle.claims.proofs.LiveAge.{live-age}
 use Rattle.claims.proofs.GrantedNumbers.{granted-numbers}
 use Rattle.claims.proofs.Repeats.{setup-repeats, setup-twice}
+use Rattle.claims.proofs.StoredNames.{stored-names}
 
 pub record Claims (s : Server) : Type 0 where
   -- 1: each number is given exactly if its condition holds and none of a lower number; a refusal changes nothing
@@ -58,6 +60,8 @@ pub record Claims (s : Server) : Type 0 where
   pub setupTwice : SetupTwice
   -- the number granted is the first that is neither 0 nor in use
   pub numbers : GrantedNumbers
+  -- a stored name is a wire name of the list's length with no byte A to Z in its labels
+  pub storedNames : StoredNames
 
 pub claims : Claims model
 claims =
@@ -78,4 +82,5 @@ claims =
       setupRepeats = setup-repeats;
       setupTwice = setup-twice;
       numbers = granted-numbers;
+      storedNames = stored-names;
     }

@@ -17,4 +17,5 @@ pub mod Reading
 pub mod AnySound
 pub mod CallBuilders
 pub mod Impostors
+pub mod StoredNames
 pub mod Claims

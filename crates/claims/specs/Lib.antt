@@ -18,3 +18,4 @@ pub mod Reading
 pub mod AnySound
 pub mod GrantedNumbers
 pub mod SoundSamples
+pub mod StoredNames

@@ -262,8 +262,8 @@ tallyBefore c y (suc i) = optionTally (c .sender) (c .random) (question (c .data
 abbrev pub tallyOutcome : ServeCall → Tally → ℕ → Outcome
 tallyOutcome c y i = optionOutcome (c .sender) (c .random) (question (c .datagram) i) (llqOption (c .datagram) i) (tallyBefore c y i)
 
--- the number that a call's arguments and the table's length call for, any but "table unsound". Its conditions, that of the roster (`goodRoster`)
--- too, are the model's: claim 1 spells out each (`Refusals`, for the roster `RosterFault`)
+-- the number that a call's arguments and the table's length call for, any but "table unsound". All conditions but the reading's are the
+-- model's tests, the roster's `goodRoster` among them: claim 1 spells out each (`Refusals`, for the roster `RosterFault`)
 unfoldable pub judged : ℕ → Call → ℕ
 judged size (making c) =
     refusal ((1, not (tableLength size)) ∷ (2, leb 1024 (c .week) || leb 604800 (c .second)) ∷ (9, not (goodRoster ((size - 313) / 320) (c .roster))) ∷ [])
