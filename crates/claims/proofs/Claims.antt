@@ -16,6 +16,7 @@ use Rattle.claims.specs.LiveAge.{LiveAge}
 use Rattle.claims.specs.GrantedNumbers.{GrantedNumbers}
 use Rattle.claims.specs.Repeats.{SetupRepeats, SetupTwice}
 use Rattle.claims.specs.StoredNames.{StoredNames}
+use Rattle.claims.specs.Step.{StepMeaning}
 use Rattle.claims.proofs.Refusals.{refusals}
 use Rattle.claims.proofs.Changes.{changes}
 use Rattle.claims.proofs.Others.{keeps-others}
@@ -30,6 +31,7 @@ use Rattle.claims.proofs.LiveAge.{live-age}
 use Rattle.claims.proofs.GrantedNumbers.{granted-numbers}
 use Rattle.claims.proofs.Repeats.{setup-repeats, setup-twice}
 use Rattle.claims.proofs.StoredNames.{stored-names}
+use Rattle.claims.proofs.Step.{step-meaning}
 
 pub record Claims (s : Server) : Type 0 where
   -- 1: each number is given exactly if its condition holds and none of a lower number; a refusal changes nothing
@@ -62,6 +64,8 @@ pub record Claims (s : Server) : Type 0 where
   pub numbers : GrantedNumbers
   -- a stored name is a wire name of the list's length with no byte A to Z in its labels
   pub storedNames : StoredNames
+  -- the step is the one integer of its range that is the places' difference and whole cycles
+  pub step : StepMeaning
 
 pub claims : Claims model
 claims =
@@ -83,4 +87,5 @@ claims =
       setupTwice = setup-twice;
       numbers = granted-numbers;
       storedNames = stored-names;
+      step = step-meaning;
     }

@@ -18,4 +18,5 @@ pub mod AnySound
 pub mod CallBuilders
 pub mod Impostors
 pub mod StoredNames
+pub mod Step
 pub mod Claims

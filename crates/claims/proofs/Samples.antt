@@ -8,7 +8,7 @@ use Rattle.claims.proofs.Definitions.{model-definitions}
 
 pub samples-hold : Samples
 unfolding model-definitions
-samples-hold = (refl, (refl, (refl, (refl, (refl, (refl, (refl, (refl, (refl, (refl, (refl, (refl, tt))))))))))))
+samples-hold = (refl, (refl, (refl, (refl, (refl, (refl, (refl, (refl, (refl, (refl, (refl, (refl, (refl, (refl, tt))))))))))))))
 
 pub sound-samples-hold : SoundSamples
 unfolding model-definitions

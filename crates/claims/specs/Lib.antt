@@ -19,3 +19,4 @@ pub mod AnySound
 pub mod GrantedNumbers
 pub mod SoundSamples
 pub mod StoredNames
+pub mod Step
