@@ -13,7 +13,7 @@ use Rattle.model.specs.Serve.{Sender, Outcome, Served, Kind, badVersion, badFor
 use Rattle.model.specs.Reply.{replyBytes, replyLength, mismatch}
 use Rattle.model.specs.Calls.{MakeCall, TickCall, ServeCall, Made, Ticked, Answered, madeBy, tickedBy, servedBy, tick, serve, tickRefusal, serveRefusal}
 use Rattle.model.specs.Meets.{Server, model}
-use Rattle.claims.specs.Pins.{challenge as w11Reply}
+use Rattle.claims.specs.Pins.{challengeReply}
 
 -- A SERVER WITH ONE CALL OF ITS OWN, the others those of the server given: a further call is one line in each
 abbrev pub withMake : Server → (MakeCall → List ℕ → Made) → Server
@@ -94,7 +94,7 @@ refusesAll = withServe (withTick (withMake model (madeBy 2)) (tickedBy 2)) (serv
 
 -- one constant reply, W11's
 abbrev pub constantReply : Server
-constantReply = withServe model (λ c b lent. let a = serve c b lent in withReply a (cond (eqb (a .number) 0) (w11Reply ++ drop 52 lent) lent))
+constantReply = withServe model (λ c b lent. let a = serve c b lent in withReply a (cond (eqb (a .number) 0) (challengeReply ++ drop 52 lent) lent))
 
 -- an option by its kind, with these for setup and response
 abbrev pub byKind : Does → Does → Kind → Does

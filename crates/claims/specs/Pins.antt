@@ -7,53 +7,54 @@ use lib.ListN.{length, replicate}
 use Rattle.model.specs.Serve.{Sender}
 use Rattle.model.specs.Calls.{MakeCall, ServeCall}
 use Rattle.model.specs.Meets.{Server}
+use Rattle.claims.specs.CallBuilders.{makeAt, datagramAt}
 
 abbrev pub zeros : ℕ → List ℕ
 zeros k = replicate k 0
 
 -- W11's query: message number 0x1234, RD, one question (a., PTR, IN), OPT, one LLQ option: a setup asking 3,600 seconds
-abbrev pub query : List ℕ
-query =
+abbrev pub setupQuery : List ℕ
+setupQuery =
     0x12 ∷ 0x34 ∷ 0x01 ∷ 0 ∷ 0 ∷ 1 ∷ 0 ∷ 0 ∷ 0 ∷ 0 ∷ 0 ∷ 1
     ∷ 1 ∷ 0x61 ∷ 0 ∷ 0 ∷ 0x0C ∷ 0 ∷ 1
     ∷ 0 ∷ 0 ∷ 0x29 ∷ 0x05 ∷ 0xC0 ∷ 0 ∷ 0 ∷ 0 ∷ 0 ∷ 0 ∷ 0x16
     ∷ 0 ∷ 1 ∷ 0 ∷ 0x12 ∷ 0 ∷ 1 ∷ 0 ∷ 1 ∷ 0 ∷ 0 ∷ 0 ∷ 0 ∷ 0 ∷ 0 ∷ 0 ∷ 0 ∷ 0 ∷ 0 ∷ 0 ∷ 0 ∷ 0x0E ∷ 0x10 ∷ []
 
 -- W11's reply: the same but 0x85 for the third byte, and number 7
-abbrev pub challenge : List ℕ
-challenge =
+abbrev pub challengeReply : List ℕ
+challengeReply =
     0x12 ∷ 0x34 ∷ 0x85 ∷ 0 ∷ 0 ∷ 1 ∷ 0 ∷ 0 ∷ 0 ∷ 0 ∷ 0 ∷ 1
     ∷ 1 ∷ 0x61 ∷ 0 ∷ 0 ∷ 0x0C ∷ 0 ∷ 1
     ∷ 0 ∷ 0 ∷ 0x29 ∷ 0x05 ∷ 0xC0 ∷ 0 ∷ 0 ∷ 0 ∷ 0 ∷ 0 ∷ 0x16
     ∷ 0 ∷ 1 ∷ 0 ∷ 0x12 ∷ 0 ∷ 1 ∷ 0 ∷ 1 ∷ 0 ∷ 0 ∷ 0 ∷ 0 ∷ 0 ∷ 0 ∷ 0 ∷ 0 ∷ 0 ∷ 7 ∷ 0 ∷ 0 ∷ 0x0E ∷ 0x10 ∷ []
 
 -- its response: the number and the granted lease repeated
-abbrev pub response : List ℕ
-response =
+abbrev pub responseQuery : List ℕ
+responseQuery =
     0x12 ∷ 0x35 ∷ 0x01 ∷ 0 ∷ 0 ∷ 1 ∷ 0 ∷ 0 ∷ 0 ∷ 0 ∷ 0 ∷ 1
     ∷ 1 ∷ 0x41 ∷ 0 ∷ 0 ∷ 0x0C ∷ 0 ∷ 1
     ∷ 0 ∷ 0 ∷ 0x29 ∷ 0x05 ∷ 0xC0 ∷ 0 ∷ 0 ∷ 0 ∷ 0 ∷ 0 ∷ 0x16
     ∷ 0 ∷ 1 ∷ 0 ∷ 0x12 ∷ 0 ∷ 1 ∷ 0 ∷ 1 ∷ 0 ∷ 0 ∷ 0 ∷ 0 ∷ 0 ∷ 0 ∷ 0 ∷ 0 ∷ 0 ∷ 7 ∷ 0 ∷ 0 ∷ 0x0E ∷ 0x10 ∷ []
 
 -- its acknowledgment, three seconds after the setup: lease less age is 3,597
-abbrev pub acknowledgment : List ℕ
-acknowledgment =
+abbrev pub acknowledgmentReply : List ℕ
+acknowledgmentReply =
     0x12 ∷ 0x35 ∷ 0x85 ∷ 0 ∷ 0 ∷ 1 ∷ 0 ∷ 0 ∷ 0 ∷ 0 ∷ 0 ∷ 1
     ∷ 1 ∷ 0x41 ∷ 0 ∷ 0 ∷ 0x0C ∷ 0 ∷ 1
     ∷ 0 ∷ 0 ∷ 0x29 ∷ 0x05 ∷ 0xC0 ∷ 0 ∷ 0 ∷ 0 ∷ 0 ∷ 0 ∷ 0x16
     ∷ 0 ∷ 1 ∷ 0 ∷ 0x12 ∷ 0 ∷ 1 ∷ 0 ∷ 1 ∷ 0 ∷ 0 ∷ 0 ∷ 0 ∷ 0 ∷ 0 ∷ 0 ∷ 0 ∷ 0 ∷ 7 ∷ 0 ∷ 0 ∷ 0x0E ∷ 0x0D ∷ []
 
 -- a refresh with RD 0, asking 7,200 seconds
-abbrev pub refresh : List ℕ
-refresh =
+abbrev pub refreshQuery : List ℕ
+refreshQuery =
     0x13 ∷ 0x37 ∷ 0 ∷ 0 ∷ 0 ∷ 1 ∷ 0 ∷ 0 ∷ 0 ∷ 0 ∷ 0 ∷ 1
     ∷ 1 ∷ 0x61 ∷ 0 ∷ 0 ∷ 0x0C ∷ 0 ∷ 1
     ∷ 0 ∷ 0 ∷ 0x29 ∷ 0x05 ∷ 0xC0 ∷ 0 ∷ 0 ∷ 0 ∷ 0 ∷ 0 ∷ 0x16
     ∷ 0 ∷ 1 ∷ 0 ∷ 0x12 ∷ 0 ∷ 1 ∷ 0 ∷ 2 ∷ 0 ∷ 0 ∷ 0 ∷ 0 ∷ 0 ∷ 0 ∷ 0 ∷ 0 ∷ 0 ∷ 7 ∷ 0 ∷ 0 ∷ 0x1C ∷ 0x20 ∷ []
 
 -- its answer: 0x84 for the third byte, the number and the lease granted
-abbrev pub renewal : List ℕ
-renewal =
+abbrev pub renewalReply : List ℕ
+renewalReply =
     0x13 ∷ 0x37 ∷ 0x84 ∷ 0 ∷ 0 ∷ 1 ∷ 0 ∷ 0 ∷ 0 ∷ 0 ∷ 0 ∷ 1
     ∷ 1 ∷ 0x61 ∷ 0 ∷ 0 ∷ 0x0C ∷ 0 ∷ 1
     ∷ 0 ∷ 0 ∷ 0x29 ∷ 0x05 ∷ 0xC0 ∷ 0 ∷ 0 ∷ 0 ∷ 0 ∷ 0 ∷ 0x16
@@ -64,16 +65,16 @@ abbrev pub sender : Sender
 sender = record { address = 0xFFFF_C000_0201; port = 5353 }
 
 abbrev pub makeCall : MakeCall
-makeCall = record { week = 1; second = 2; roster = [] }
+makeCall = makeAt 1 2 []
 
 abbrev pub setupCall : ServeCall
-setupCall = record { week = 1; second = 7; sender = sender; random = 7; datagram = query; room = 60 }
+setupCall = datagramAt 1 7 sender 7 setupQuery 60
 
 abbrev pub responseCall : ServeCall
-responseCall = record { week = 1; second = 10; sender = sender; random = 9; datagram = response; room = 60 }
+responseCall = datagramAt 1 10 sender 9 responseQuery 60
 
 abbrev pub refreshCall : ServeCall
-refreshCall = record { week = 1; second = 20; sender = sender; random = 9; datagram = refresh; room = 60 }
+refreshCall = datagramAt 1 20 sender 9 refreshQuery 60
 
 -- THE TABLE of 4 slots, 1,593 bytes
 -- clock: kind 1, place 4, running count 4
@@ -142,9 +143,9 @@ listedPin =
 pub record Pinned (s : Server) : Type 0 where
   pub size : length madePin ≡ 1593
   pub made : s .make makeCall (replicate 1593 0xEE) ≡ record { number = 0; table = madePin }
-  pub listed : s .make (record { week = 1; second = 2; roster = rosterGiven }) (replicate 633 0xEE) ≡ record { number = 0; table = listedPin }
-  pub challenged : s .serve setupCall madePin (replicate 60 0xAA) ≡ record { number = 0; length = 52; table = pendingPin; reply = challenge ++ replicate 8 0xAA }
+  pub listed : s .make (makeAt 1 2 rosterGiven) (replicate 633 0xEE) ≡ record { number = 0; table = listedPin }
+  pub challenged : s .serve setupCall madePin (replicate 60 0xAA) ≡ record { number = 0; length = 52; table = pendingPin; reply = challengeReply ++ replicate 8 0xAA }
   pub acknowledged : s .serve responseCall pendingPin (replicate 60 0xAA)
-      ≡ record { number = 0; length = 52; table = establishedPin; reply = acknowledgment ++ replicate 8 0xAA }
+      ≡ record { number = 0; length = 52; table = establishedPin; reply = acknowledgmentReply ++ replicate 8 0xAA }
   pub renewed : s .serve refreshCall establishedPin (replicate 60 0xAA)
-      ≡ record { number = 0; length = 52; table = renewedPin; reply = renewal ++ replicate 8 0xAA }
+      ≡ record { number = 0; length = 52; table = renewedPin; reply = renewalReply ++ replicate 8 0xAA }
