@@ -16,6 +16,7 @@ use Rattle.claims.specs.LiveAge.{LiveAge}
 use Rattle.claims.specs.GrantedNumbers.{GrantedNumbers}
 use Rattle.claims.specs.Repeats.{SetupRepeats, SetupTwice}
 use Rattle.claims.specs.StoredNames.{StoredNames}
+use Rattle.claims.specs.NumbersInBytes.{NumbersInBytes}
 use Rattle.claims.specs.Step.{StepMeaning}
 use Rattle.claims.proofs.Refusals.{refusals}
 use Rattle.claims.proofs.Changes.{changes}
@@ -31,6 +32,7 @@ use Rattle.claims.proofs.LiveAge.{live-age}
 use Rattle.claims.proofs.GrantedNumbers.{granted-numbers}
 use Rattle.claims.proofs.Repeats.{setup-repeats, setup-twice}
 use Rattle.claims.proofs.StoredNames.{stored-names}
+use Rattle.claims.proofs.NumbersInBytes.{numbers-in-bytes}
 use Rattle.claims.proofs.Step.{step-meaning}
 
 pub record Claims (s : Server) : Type 0 where
@@ -66,6 +68,8 @@ pub record Claims (s : Server) : Type 0 where
   pub storedNames : StoredNames
   -- the step is the one integer of its range that is the places' difference and whole cycles
   pub step : StepMeaning
+  -- numbers are big endian, and lists of bytes are cut and joined as they say
+  pub numbersInBytes : NumbersInBytes
 
 pub claims : Claims model
 claims =
@@ -88,4 +92,5 @@ claims =
       numbers = granted-numbers;
       storedNames = stored-names;
       step = step-meaning;
+      numbersInBytes = numbers-in-bytes;
     }

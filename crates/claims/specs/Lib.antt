@@ -16,6 +16,7 @@ pub mod Others
 pub mod LiveAge
 pub mod Reading
 pub mod AnySound
+pub mod NumbersInBytes
 pub mod GrantedNumbers
 pub mod SoundSamples
 pub mod StoredNames
