@@ -13,8 +13,11 @@ use Rattle.claims.specs.Reply.{ReplyClaim}
 use Rattle.claims.specs.Reading.{ReadsQueries}
 use Rattle.claims.specs.AnySound.{AnySound}
 use Rattle.claims.specs.LiveAge.{LiveAge}
-use Rattle.claims.specs.Numbers.{GrantedNumbers}
+use Rattle.claims.specs.GrantedNumbers.{GrantedNumbers}
 use Rattle.claims.specs.Repeats.{SetupRepeats, SetupTwice}
+use Rattle.claims.specs.StoredNames.{StoredNames}
+use Rattle.claims.specs.NumbersInBytes.{NumbersInBytes}
+use Rattle.claims.specs.Step.{StepMeaning}
 use Rattle.claims.proofs.Refusals.{refusals}
 use Rattle.claims.proofs.Changes.{changes}
 use Rattle.claims.proofs.Others.{keeps-others}
@@ -26,8 +29,11 @@ use Rattle.claims.proofs.Reply.{reply-claim}
 use Rattle.claims.proofs.Reading.{reads-queries}
 use Rattle.claims.proofs.AnySound.{any-sound}
 use Rattle.claims.proofs.LiveAge.{live-age}
-use Rattle.claims.proofs.Numbers.{granted-numbers}
+use Rattle.claims.proofs.GrantedNumbers.{granted-numbers}
 use Rattle.claims.proofs.Repeats.{setup-repeats, setup-twice}
+use Rattle.claims.proofs.StoredNames.{stored-names}
+use Rattle.claims.proofs.NumbersInBytes.{numbers-in-bytes}
+use Rattle.claims.proofs.Step.{step-meaning}
 
 pub record Claims (s : Server) : Type 0 where
   -- 1: each number is given exactly if its condition holds and none of a lower number; a refusal changes nothing
@@ -58,6 +64,12 @@ pub record Claims (s : Server) : Type 0 where
   pub setupTwice : SetupTwice
   -- the number granted is the first that is neither 0 nor in use
   pub numbers : GrantedNumbers
+  -- a stored name is a wire name of the list's length with no byte A to Z in its labels
+  pub storedNames : StoredNames
+  -- the step is the one integer of its range that is the places' difference and whole cycles
+  pub step : StepMeaning
+  -- numbers are big endian, and lists of bytes are cut and joined as they say
+  pub numbersInBytes : NumbersInBytes
 
 pub claims : Claims model
 claims =
@@ -78,4 +90,7 @@ claims =
       setupRepeats = setup-repeats;
       setupTwice = setup-twice;
       numbers = granted-numbers;
+      storedNames = stored-names;
+      step = step-meaning;
+      numbersInBytes = numbers-in-bytes;
     }

@@ -14,7 +14,7 @@ use Rattle.model.specs.Calls.{ServeCall, serve}
 use Rattle.model.specs.Meets.{model}
 use Rattle.model.proofs.ListLaws.{never}
 use Rattle.claims.specs.Changes.{RunOut, RightRefresh, Datagram, doneOptions}
-use Rattle.claims.specs.Established.{Answers, Refreshes, FirstAnswer, StillHeld, Pending, Settled, EstablishedExactly}
+use Rattle.claims.specs.Established.{ResponseTo, RefreshOf, FirstResponse, StillHeld, Pending, PendingAfter, EstablishedExactly}
 use Rattle.claims.proofs.Changes.EntryAfter.{EntryAfter, stays, confirmed, renewed, ended, entry-after}
 use Rattle.claims.proofs.Changes.{datagram-done, read-left}
 
@@ -27,7 +27,7 @@ module _ (c : ServeCall) (before after : List ℕ) (d : Datagram c before after)
       entry-after (c .sender) (question (c .datagram) m) (llqOption (c .datagram) m) (d .tables m) (d .tables (suc m)) (d .options m h .change) j x q
 
   -- no right response yet: it is as it was
-  untouched-to : (m : ℕ) → m ≤ doneOptions c → ((i : ℕ) → i < m → Answers c i e → ⊥) → slotOf (d .tables m) j ≡ held e
+  untouched-to : (m : ℕ) → m ≤ doneOptions c → ((i : ℕ) → i < m → ResponseTo c i e → ⊥) → slotOf (d .tables m) j ≡ held e
   untouched-to zero h none =
       d .moved .kept j e (p .here) (λ r. p .live (subst (λ (k : Clock). RunOut (k .running) e) (d .moved .clock) r))
   untouched-to (suc m) h none = go (after-at m e (omega arith) (untouched-to m (omega arith) (λ i l. none i (omega arith))))
@@ -40,13 +40,13 @@ module _ (c : ServeCall) (before after : List ℕ) (d : Datagram c before after)
       go (ended right n z) = never (right .established) (p .pending)
 
   -- just after its first right response it is established
-  established-at : (i : ℕ) → FirstAnswer c i e → slotOf (d .tables (suc i)) j ≡ held (establish e)
+  established-at : (i : ℕ) → FirstResponse c i e → slotOf (d .tables (suc i)) j ≡ held (establish e)
   established-at i f =
       let l = f .within in
-      d .options i l .establishes j e (untouched-to i (omega arith) (f .first)) (p .pending) .1 (f .answers)
+      d .options i l .establishes j e (untouched-to i (omega arith) (f .first)) (p .pending) .1 (f .response)
 
   -- and stays so while no option refreshes it
-  established-to : (i : ℕ) → FirstAnswer c i e → (m : ℕ) → i < m → m ≤ doneOptions c → ((k : ℕ) → i < k → k < m → Refreshes c k e → ⊥)
+  established-to : (i : ℕ) → FirstResponse c i e → (m : ℕ) → i < m → m ≤ doneOptions c → ((k : ℕ) → i < k → k < m → RefreshOf c k e → ⊥)
       → slotOf (d .tables m) j ≡ held (establish e)
   established-to i f zero l h none = absurd (omega arith)
   established-to i f (suc m) l h none =
@@ -65,8 +65,8 @@ module _ (c : ServeCall) (before after : List ℕ) (d : Datagram c before after)
       go a (ended right n z) = absurd (none m a (omega arith) right)
 
   -- it is there still while no option ends it
-  kept-to : (i : ℕ) → FirstAnswer c i e → (m : ℕ) → i < m → m ≤ doneOptions c
-      → ((k : ℕ) → i < k → k < m → Refreshes c k e → llqOption (c .datagram) k .lease ≢ 0) → StillHeld (d .tables m) j e
+  kept-to : (i : ℕ) → FirstResponse c i e → (m : ℕ) → i < m → m ≤ doneOptions c
+      → ((k : ℕ) → i < k → k < m → RefreshOf c k e → llqOption (c .datagram) k .lease ≢ 0) → StillHeld (d .tables m) j e
   kept-to i f zero l h none = absurd (omega arith)
   kept-to i f (suc m) l h none =
       ⊎-elim
@@ -87,7 +87,7 @@ module _ (c : ServeCall) (before after : List ℕ) (d : Datagram c before after)
       (let z : i ≤ m = omega arith in eq-or-lt-of-le z)
     where
       -- a right refresh of what is kept is one of the entry
-      refreshes : (k : StillHeld (d .tables m) j e) → RightRefresh (c .sender) (question (c .datagram) m) (llqOption (c .datagram) m) (k .entry) → Refreshes c m e
+      refreshes : (k : StillHeld (d .tables m) j e) → RightRefresh (c .sender) (question (c .datagram) m) (llqOption (c .datagram) m) (k .entry) → RefreshOf c m e
       refreshes k r =
           record {
             refresh = r .refresh;
@@ -131,8 +131,8 @@ module _ (c : ServeCall) (before after : List ℕ) (d : Datagram c before after)
       next : i < m → StillHeld (d .tables m) j e → StillHeld (d .tables (suc m)) j e
       next a k = go a k (after-at m (k .entry) (omega arith) (k .here))
 
-  settled : Settled c (d .tables (doneOptions c)) j e
-  settled =
+  pending-after : PendingAfter c (d .tables (doneOptions c)) j e
+  pending-after =
       record {
         untouched = λ none. untouched-to (doneOptions c) (omega arith) none;
         established = λ i f none. established-to i f (doneOptions c) (f .within) (omega arith) none;
@@ -142,4 +142,4 @@ module _ (c : ServeCall) (before after : List ℕ) (d : Datagram c before after)
 
 pub established-exactly : EstablishedExactly model
 established-exactly c b lent range stored room h j e p =
-    rw (read-left c b lent range stored h) (settled c b (serve c b lent .table) (datagram-done c b lent range stored h) j e p)
+    rw (read-left c b lent range stored h) (pending-after c b (serve c b lent .table) (datagram-done c b lent range stored h) j e p)

@@ -1,4 +1,5 @@
 pub mod AcceptedCalls
+pub mod RosterGiven
 pub mod Relation
 pub mod Refusals
 pub mod Changes
@@ -6,12 +7,17 @@ pub mod Others
 pub mod Established
 pub mod Tick
 pub mod Demand3
+pub mod Definitions
 pub mod Samples
 pub mod Reply
 pub mod LiveAge
 pub mod Repeats
-pub mod Numbers
+pub mod NumbersInBytes
+pub mod GrantedNumbers
 pub mod Reading
 pub mod AnySound
+pub mod CallBuilders
 pub mod Impostors
+pub mod StoredNames
+pub mod Step
 pub mod Claims

@@ -15,7 +15,7 @@ use Rattle.model.specs.Serve.{Sender, slotOf, establish, withSlot}
 use Rattle.model.specs.Calls.{ServeCall, serve}
 use Rattle.model.specs.Meets.{model}
 use Rattle.model.proofs.HoldingLaws.{not-held, held-inj}
-use Rattle.claims.specs.Changes.{RunOut, Own, relet, Change, nothing, grant, confirm, renew, end, Datagram, doneOptions}
+use Rattle.claims.specs.Changes.{RunOut, Own, renewedEntry, Change, nothing, grant, confirm, renew, end, Datagram, doneOptions}
 use Rattle.claims.specs.Others.{OfSender, HasRunOut, OnlyOwn, OthersKept, KeepsOthers}
 use Rattle.claims.proofs.Changes.EntryAfter.{slot-written, slot-other}
 use Rattle.claims.proofs.Changes.{datagram-done, read-left}
@@ -51,29 +51,29 @@ written-step s t u k z i hu was is =
         (inr (was, subst (λ (v : Slot). (v ≡ free) ⊎ OfSender s v) (sym w) is))
     go j false m = inl (ap (λ (v : Table). slotOf v j) hu ∙ slot-other t k z j (eqb-false j k m))
 
-step : (s : Sender) (q : Question) (o : LlqOption) (t u : Table) → Change s q o t u → Step s t u
-step s q o t u (nothing hu) =
+change-step : (s : Sender) (q : Question) (o : LlqOption) (t u : Table) → Change s q o t u → Step s t u
+change-step s q o t u (nothing hu) =
     record {
       clock = ap (λ (w : Table). w .clock) hu;
       roster = ap (λ (w : Table). w .roster) hu;
       size = ap (λ (w : Table). length (w .slots)) hu;
       slots = λ j. inl (ap (λ (w : Table). slotOf w j) hu);
     }
-step s q o t u (grant k e i h low g hu) =
+change-step s q o t u (grant k e i h low g hu) =
     written-step s t u k (held e) i hu (inl h) (inr (of-sender s q e (held e) refl (g .own)))
-step s q o t u (confirm k e i h b r hu) =
+change-step s q o t u (confirm k e i h b r hu) =
     written-step s t u k (held (establish e)) i hu (inr (of-sender s q e (slotOf t k) h (r .own)))
     (inr (record { entry = establish e; here = refl; address = r .own .address; port = r .own .port }))
-step s q o t u (renew k e i h r n hu) =
-    written-step s t u k (held (relet t o e)) i hu (inr (of-sender s q e (slotOf t k) h (r .own)))
-    (inr (record { entry = relet t o e; here = refl; address = r .own .address; port = r .own .port }))
-step s q o t u (end k e i h r n hu) = written-step s t u k free i hu (inr (of-sender s q e (slotOf t k) h (r .own))) (inl refl)
+change-step s q o t u (renew k e i h r n hu) =
+    written-step s t u k (held (renewedEntry t o e)) i hu (inr (of-sender s q e (slotOf t k) h (r .own)))
+    (inr (record { entry = renewedEntry t o e; here = refl; address = r .own .address; port = r .own .port }))
+change-step s q o t u (end k e i h r n hu) = written-step s t u k free i hu (inr (of-sender s q e (slotOf t k) h (r .own))) (inl refl)
 
 -- ALL OPTIONS of an answered datagram, one after the other
 module _ (c : ServeCall) (before after : List ℕ) (d : Datagram c before after) where
   step-at : (m : ℕ) → m < doneOptions c → Step (c .sender) (d .tables m) (d .tables (suc m))
   step-at m h =
-      step (c .sender) (question (c .datagram) m) (llqOption (c .datagram) m) (d .tables m) (d .tables (suc m)) (d .options m h .change)
+      change-step (c .sender) (question (c .datagram) m) (llqOption (c .datagram) m) (d .tables m) (d .tables (suc m)) (d .options m h .change)
 
   -- clock, roster and size stay
   same-at : (m : ℕ) → m ≤ doneOptions c

@@ -16,9 +16,9 @@ use Rattle.model.proofs.ListLaws.{one-of, test, never, and-left, and-right, and
 use Rattle.model.proofs.NumberLaws.{getD-part, length-part}
 use Rattle.model.proofs.NameLaws.{upper-is, fold-same, question-size, question-within}
 use Rattle.model.proofs.QueryLaws.{good-at}
-use Rattle.claims.specs.Refusals.{two, NameEnds, Starts, QuestionFault, OptFault}
+use Rattle.claims.specs.Refusals.{twoBytes, NameEnds, Starts, QuestionFault, OptFault}
 use Rattle.claims.specs.Demand3.{Exactly}
-use Rattle.claims.specs.Reading.{Folded, QuestionRead, LlqPlaces, OptionRead, Matching, Reading, ReadsQueries}
+use Rattle.claims.specs.Reading.{Folded, QuestionRead, LlqPlaces, OptionRead, Matching, QueryRead, ReadsQueries}
 use Rattle.claims.proofs.Refusals.NameReading.{end-size}
 use Rattle.claims.proofs.Refusals.OptReading.{end-of}
 use Rattle.claims.proofs.Refusals.QuestionReading.{big-two, start-is, end-is, bad-questions}
@@ -61,8 +61,8 @@ module _ (d : List ℕ) where
             subst (Folded (getD d (p + j) 0))
             (sym (getD-map fold (part p k d) j 0 0 (subst (λ (x : ℕ). j < x) (sym n) j<k) ∙ ap fold (getD-part p k d j j<k)))
             (folded (getD d (p + j) 0));
-        qtype = big-two d (p + k) ∙ ap (λ (x : ℕ). two d x) h;
-        qclass = big-two d (p + k + 2) ∙ ap (λ (x : ℕ). two d (x + 2)) h;
+        qtype = big-two d (p + k) ∙ ap (λ (x : ℕ). twoBytes d x) h;
+        qclass = big-two d (p + k + 2) ∙ ap (λ (x : ℕ). twoBytes d (x + 2)) h;
       }
 
   -- OPTIONS
@@ -104,7 +104,7 @@ module _ (d : List ℕ) where
       (λ x.
       let g = and-left (goodOption d q) (optionsFill k d (optionEnd d q)) x in
       let m = placed k (optionEnd d q) (and-right (goodOption d q) (optionsFill k d (optionEnd d q)) x) in
-      let rest : LlqPlaces d (q + 4 + two d (q + 2)) (m .places) = subst (λ (r : ℕ). LlqPlaces d r (m .places)) (end-of d q) (m .are) in
+      let rest : LlqPlaces d (q + 4 + twoBytes d (q + 2)) (m .places) = subst (λ (r : ℕ). LlqPlaces d r (m .places)) (end-of d q) (m .are) in
       ⊎-elim
       (λ (e : eqb (bigEndian d q 2) 1 ≡ true).
       record {
@@ -126,8 +126,8 @@ module _ (d : List ℕ) where
   fields p =
       record {
         version = big-two d (p + 4);
-        opcode = big-two d (p + 4 + 2) ∙ ap (λ (x : ℕ). two d x) (omega arith);
-        error = big-two d (p + 4 + 4) ∙ ap (λ (x : ℕ). two d x) (omega arith);
+        opcode = big-two d (p + 4 + 2) ∙ ap (λ (x : ℕ). twoBytes d x) (omega arith);
+        error = big-two d (p + 4 + 4) ∙ ap (λ (x : ℕ). twoBytes d x) (omega arith);
         number = ap (λ (x : ℕ). bigEndian d x 8) (omega arith);
         lease = ap (λ (x : ℕ). bigEndian d x 4) (omega arith);
       }
@@ -145,7 +145,7 @@ module _ (d : List ℕ) where
     abbrev sized : EdnsOption → Bool
     sized o = eqb (o .size) 18
 
-    size-at : (i : ℕ) → i < length ps → getD (llqOptions d) i (optionAt d 0) .size ≡ two d (getD ps i 0 + 2)
+    size-at : (i : ℕ) → i < length ps → getD (llqOptions d) i (optionAt d 0) .size ≡ twoBytes d (getD ps i 0 + 2)
     unfolding optionAt
     size-at i l = ap (λ (x : List EdnsOption). getD x i (optionAt d 0) .size) r
         ∙ ap (λ (o : EdnsOption). o .size) (getD-map (optionAt d) ps i 0 (optionAt d 0) l)
@@ -193,6 +193,8 @@ reads-queries d at good s fine =
     let r : llqOptions d ≡ map (optionAt d) (m .places) =
     ap (λ (x : ℕ). keep (llq d) (optionsFrom (suc (length d)) d (x + 11))) (sym z) ∙ m .read in
     record {
+      count = big-two d 4;
+      behind = sym z;
       questions = λ i p e l st n.
           let b : p ≡ questionStart d i = start-is d i p st in
           subst (λ (x : ℕ). QuestionRead d p e (questionAt d x)) b

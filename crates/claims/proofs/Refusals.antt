@@ -19,7 +19,7 @@ use Rattle.model.specs.Clock.{validReading}
 use Rattle.model.specs.Query.{wrongSize, goodHeader, qdcount, goodQuestions, questionsEnd, goodOpt, llqOptions}
 use Rattle.model.specs.Table.{slotsIn}
 use Rattle.model.specs.Sound.{soundBytes}
-use Rattle.model.specs.Reply.{replyLength}
+use Rattle.model.specs.Reply.{replyOptions, replyLength}
 use Rattle.model.specs.Calls.{MakeCall, TickCall, ServeCall, tableLength, goodRoster, makeRefusal, tickRefusal, serveRefusal, madeBy, tickedBy, servedBy, make, tick, serve}
 use Rattle.model.specs.Meets.{model}
 use Rattle.model.proofs.ListLaws.{never, or-left, or-right, one-of}
@@ -30,7 +30,7 @@ use Rattle.claims.specs.Events.{MakeInRange, ServeInRange}
 use Rattle.claims.specs.Refusals.{Lowest, Done, Unsound, WrongLength, ReadingFault, SizeFault, HeaderFault, QuestionFault, OptFault, NoLlqOption, BehindQuestions, lengthOf, ReplyFault, RosterFault, MakeNumber, TickNumber, ServeNumber, Refusals}
 use Rattle.claims.proofs.Refusals.Ladders.{rung, rung-not, no-rung}
 use Rattle.claims.proofs.Refusals.HeaderReading.{bad-length, good-length, bad-reading, good-reading, bad-size, good-size, bad-header, good-header}
-use Rattle.claims.proofs.Refusals.QuestionReading.{bad-questions, good-questions, starts-end, end-is}
+use Rattle.claims.proofs.Refusals.QuestionReading.{big-two, bad-questions, good-questions, starts-end, end-is}
 use Rattle.claims.proofs.Refusals.OptReading.{bad-opt, good-opt, no-option, some-option}
 use Rattle.claims.proofs.Refusals.RosterReading.{bad-roster, good-roster}
 
@@ -45,7 +45,7 @@ sound b bytes h u = u (sound-means b bytes h)
 -- BEHIND THE QUESTIONS: there is one such place
 
 module _ (d : List ℕ) (good : goodQuestions d (qdcount d) ≡ true) (P : ℕ → Type 0) where
-  behind : P (questionsEnd d) → BehindQuestions d P
+  pub behind : P (questionsEnd d) → BehindQuestions d P
   behind p = (questionsEnd d, (starts-end d good, p))
 
   not-behind : (P (questionsEnd d) → ⊥) → BehindQuestions d P → ⊥
@@ -53,21 +53,22 @@ module _ (d : List ℕ) (good : goodQuestions d (qdcount d) ≡ true) (P : ℕ �
 
 -- 8: THE REPLY'S LENGTH
 
-module _ (d : List ℕ) (room : ℕ) where
-  length-is : replyLength d ≡ lengthOf d (questionsEnd d)
-  length-is = omega (arith, start-min d (qdcount d))
+pub length-is : (d : List ℕ) → replyLength d ≡ lengthOf d (questionsEnd d)
+unfolding replyOptions
+length-is d = rw (← (big-two d 4)) (omega (arith, start-min d (qdcount d)))
 
+module _ (d : List ℕ) (room : ℕ) where
   too-long : ltb room (replyLength d) || ltb 1472 (replyLength d) ≡ true → ReplyFault d room (questionsEnd d)
   too-long =
       one-of (ltb room (replyLength d)) (ltb 1472 (replyLength d))
-      (λ x. ReplyFault.overBuffer (omega (arith, length-is, ltb-true room (replyLength d) x)))
-      (λ x. ReplyFault.overLimit (omega (arith, length-is, ltb-true 1472 (replyLength d) x)))
+      (λ x. ReplyFault.overBuffer (omega (arith, length-is d, ltb-true room (replyLength d) x)))
+      (λ x. ReplyFault.overLimit (omega (arith, length-is d, ltb-true 1472 (replyLength d) x)))
 
   short : ltb room (replyLength d) || ltb 1472 (replyLength d) ≡ false → ReplyFault d room (questionsEnd d) → ⊥
   short h (ReplyFault.overBuffer l) =
-      omega (arith, length-is, ltb-false room (replyLength d) (or-left (ltb room (replyLength d)) (ltb 1472 (replyLength d)) h))
+      omega (arith, length-is d, ltb-false room (replyLength d) (or-left (ltb room (replyLength d)) (ltb 1472 (replyLength d)) h))
   short h (ReplyFault.overLimit l) =
-      omega (arith, length-is, ltb-false 1472 (replyLength d) (or-right (ltb room (replyLength d)) (ltb 1472 (replyLength d)) h))
+      omega (arith, length-is d, ltb-false 1472 (replyLength d) (or-right (ltb room (replyLength d)) (ltb 1472 (replyLength d)) h))
 
 -- THE LADDERS
 

@@ -70,8 +70,8 @@ pub record Granted (s : Sender) (q : Question) (o : LlqOption) (t : Table) (e : 
   pub unheld : (j : ℕ) (x : Entry) → slotOf t j ≡ held x → Own s q x → ⊥
 
 -- an entry with a new lease, from now on
-abbrev pub relet : Table → LlqOption → Entry → Entry
-relet t o e =
+abbrev pub renewedEntry : Table → LlqOption → Entry → Entry
+renewedEntry t o e =
     record {
       established = e .established;
       address = e .address;
@@ -94,7 +94,7 @@ pub data Change (s : Sender) (q : Question) (o : LlqOption) (t u : Table) : Type
   confirm : (j : ℕ) (e : Entry) → j < length (t .slots) → slotOf t j ≡ held e → e .established ≡ false → RightResponse s q o e
       → u ≡ withSlot t j (held (establish e)) → Change s q o t u
   -- established to a new lease and stamp
-  renew : (j : ℕ) (e : Entry) → j < length (t .slots) → slotOf t j ≡ held e → RightRefresh s q o e → o .lease ≢ 0 → u ≡ withSlot t j (held (relet t o e))
+  renew : (j : ℕ) (e : Entry) → j < length (t .slots) → slotOf t j ≡ held e → RightRefresh s q o e → o .lease ≢ 0 → u ≡ withSlot t j (held (renewedEntry t o e))
       → Change s q o t u
   -- established to free
   end : (j : ℕ) (e : Entry) → j < length (t .slots) → slotOf t j ≡ held e → RightRefresh s q o e → o .lease ≡ 0 → u ≡ withSlot t j free → Change s q o t u

@@ -1,20 +1,21 @@
 -- Claim 5, demand 3: one statement over every list of makings, datagrams and ticks on one table. Assumes nothing.
-use Prim.Native.Nat.{ℕ, zero, suc, _+_, _*_, _≤_, _<_}
+use Prim.Native.Nat.{ℕ, _+_, _≤_, _<_}
 use mathlib.Core.Path.{_≡_}
-use mathlib.Core.Bool.{Bool, true, false}
+use mathlib.Core.Bool.{true, false}
 use mathlib.Core.List.{List, [], _∷_, List·Permᴰ}
 use mathlib.Core.Logic.{_≢_}
 use lib.ListN.{length}
-use lib.Dec.{eqb}
 use Rattle.model.specs.Lists.{keep}
 use Rattle.model.specs.Numbers.{bigEndian}
-use Rattle.model.specs.Query.{questionsEnd, qdcount, matched, question, llqOption}
+use Rattle.model.specs.Query.{qdcount, matched, question, llqOption}
 use Rattle.model.specs.Rules.{holdings}
 use Rattle.model.specs.Sound.{SoundBytes}
 use Rattle.model.specs.Calls.{MakeCall, ServeCall}
 use Rattle.model.specs.Meets.{Server}
-use Rattle.claims.specs.Tally.{Tally, beginTally, tallyAfter, tallyBefore, tallyOutcome, judged, heldIn, lineOf, isSetup, isOf, Full, AtShare}
-use Rattle.claims.specs.Events.{Event, made, ticked, served, callOf, numberOf, tableOf, Happens, Trace, InRange, AllInRange, MakeInRange}
+use Rattle.claims.specs.Tally.{Tally, ticking, beginTally, tallyAfter, tallyBefore, tallyOutcome, judged, heldIn, lineOf, isSetup, isOf, Full, AtShare}
+use Rattle.claims.specs.Events.{Event, made, ticked, served, callOf, numberOf, tableOf, Happens, Trace, AllInRange, MakeInRange}
+use Rattle.claims.specs.Refusals.{BehindQuestions, lengthOf}
+use Rattle.claims.specs.Reply.{optionPlace}
 
 -- a statement holds exactly if another does
 abbrev pub Exactly : Type 0 → Type 0 → Type 0
@@ -36,17 +37,14 @@ abbrev pub WithinLimits : Tally → Type 0
 WithinLimits y = (a : ℕ) → heldIn (y .holdings) a ≤ lineOf (y .roster) a .limit
 
 -- OPTION i OF A REPLY'S BYTES to a datagram d: code 2, length 2, version 2, opcode 2, error 2, number 8, lease 4
-abbrev pub replyOption : List ℕ → ℕ → ℕ
-replyOption d i = questionsEnd d + 11 + 22 * i
-
 abbrev pub errorIn : List ℕ → List ℕ → ℕ → ℕ
-errorIn reply d i = bigEndian reply (replyOption d i + 8) 2
+errorIn reply d i = bigEndian reply (optionPlace d i + 8) 2
 
 abbrev pub numberIn : List ℕ → List ℕ → ℕ → ℕ
-numberIn reply d i = bigEndian reply (replyOption d i + 10) 8
+numberIn reply d i = bigEndian reply (optionPlace d i + 10) 8
 
 abbrev pub leaseIn : List ℕ → List ℕ → ℕ → ℕ
-leaseIn reply d i = bigEndian reply (replyOption d i + 18) 4
+leaseIn reply d i = bigEndian reply (optionPlace d i + 18) 4
 
 -- a new question: a well-formed setup that finds no holding in the tally
 pub record NewQuestion (c : ServeCall) (y : Tally) (i : ℕ) : Type 0 where
@@ -54,7 +52,7 @@ pub record NewQuestion (c : ServeCall) (y : Tally) (i : ℕ) : Type 0 where
   pub unheld : keep (isOf (c .sender) (question (c .datagram) i)) (y .holdings) ≡ []
 
 -- OPTION i IN THE TALLY y BEFORE IT, and in the reply
-pub record OptionTold (c : ServeCall) (reply : List ℕ) (i : ℕ) (before y : Tally) : Type 0 where
+pub record OptionReply (c : ServeCall) (reply : List ℕ) (i : ℕ) (before y : Tally) : Type 0 where
   -- told "full" exactly if a new question of an address at its limit, or at its share with every free slot reserved
   pub fullExactly : Exactly (errorIn reply (c .datagram) i ≡ 1) (NewQuestion c y i × Full y (c .sender .address))
   -- below its share never
@@ -67,15 +65,27 @@ pub record OptionTold (c : ServeCall) (reply : List ℕ) (i : ℕ) (before y : T
   pub limits : WithinLimits y
 
 -- an answered datagram's reply, with the tally before the call
-pub record ReplyTold (c : ServeCall) (reply : List ℕ) (before : Tally) : Type 0 where
-  pub options : matched (c .datagram) ≡ true → (i : ℕ) → i < qdcount (c .datagram) → OptionTold c reply i before (tallyBefore c before i)
+pub record DatagramReply (c : ServeCall) (reply : List ℕ) (before : Tally) : Type 0 where
+  pub options : matched (c .datagram) ≡ true → (i : ℕ) → i < qdcount (c .datagram) → OptionReply c reply i before (tallyBefore c before i)
   -- where the count and length test fails, the one option does not say full
   pub mismatch : matched (c .datagram) ≡ false → errorIn reply (c .datagram) 0 ≢ 1
 
 abbrev pub Replied : Event → Tally → Type 0
 Replied (made c k after) y = Unit {0}
 Replied (ticked c k freed after) y = Unit {0}
-Replied (served c lent k size after left) y = k ≡ 0 → ReplyTold c left y
+Replied (served c lent k size after left) y = k ≡ 0 → DatagramReply c left y
+
+-- WHAT A CALL RETURNS BESIDE ITS NUMBER: a tick how many entries it freed, a datagram how long its reply is, a making nothing
+abbrev pub countOf : Event → ℕ
+countOf (made c k after) = 0
+countOf (ticked c k freed after) = freed
+countOf (served c lent k size after left) = size
+
+-- of an answered call: the tally's holdings before a tick less those after it; 12 + questions + 11 + 22 for each option of the reply
+abbrev pub Counted : ℕ → Tally → Event → Type 0
+Counted size y (made c k after) = Unit {0}
+Counted size y (ticked c k freed after) = freed + length (tallyAfter size y (ticking c) .holdings) ≡ length (y .holdings)
+Counted size y (served c lent k bytes after left) = BehindQuestions (c .datagram) (λ at. bytes ≡ lengthOf (c .datagram) at)
 
 -- ONE CALL of the list, with the tally before it
 pub record Holds (size : ℕ) (before : Tally) (e : Event) : Type 0 where
@@ -87,6 +97,9 @@ pub record Holds (size : ℕ) (before : Tally) (e : Event) : Type 0 where
   pub agrees : Agrees (tableOf e) (tallyAfter size before (callOf e))
   pub limits : WithinLimits (tallyAfter size before (callOf e))
   pub replied : Replied e before
+  -- an answered call's freed count or length is the one worked out, a refused call's is 0
+  pub counted : numberOf e ≡ 0 → Counted size before e
+  pub refused : numberOf e ≢ 0 → countOf e ≡ 0
 
 -- ALL ALONG the list
 abbrev pub Along : ℕ → Tally → List Event → Type 0

@@ -16,18 +16,18 @@ use Rattle.claims.specs.Events.{ServeInRange}
 use Rattle.claims.specs.Changes.{RunOut, RightResponse, RightRefresh, doneOptions}
 
 -- option i of the datagram is a right response to the entry
-abbrev pub Answers : ServeCall → ℕ → Entry → Type 0
-Answers c i e = RightResponse (c .sender) (question (c .datagram) i) (llqOption (c .datagram) i) e
+abbrev pub ResponseTo : ServeCall → ℕ → Entry → Type 0
+ResponseTo c i e = RightResponse (c .sender) (question (c .datagram) i) (llqOption (c .datagram) i) e
 
 -- option i is a right refresh of the entry, once established
-abbrev pub Refreshes : ServeCall → ℕ → Entry → Type 0
-Refreshes c i e = RightRefresh (c .sender) (question (c .datagram) i) (llqOption (c .datagram) i) (establish e)
+abbrev pub RefreshOf : ServeCall → ℕ → Entry → Type 0
+RefreshOf c i e = RightRefresh (c .sender) (question (c .datagram) i) (llqOption (c .datagram) i) (establish e)
 
 -- option i is the first of the datagram that is a right response to the entry
-pub record FirstAnswer (c : ServeCall) (i : ℕ) (e : Entry) : Type 0 where
+pub record FirstResponse (c : ServeCall) (i : ℕ) (e : Entry) : Type 0 where
   pub within : i < doneOptions c
-  pub answers : Answers c i e
-  pub first : (k : ℕ) → k < i → Answers c k e → ⊥
+  pub response : ResponseTo c i e
+  pub first : (k : ℕ) → k < i → ResponseTo c k e → ⊥
 
 -- slot j has the entry, established, its lease and stamp aside
 pub record StillHeld (u : Table) (j : ℕ) (e : Entry) : Type 0 where
@@ -48,15 +48,15 @@ pub record Pending (c : ServeCall) (t : Table) (j : ℕ) (e : Entry) : Type 0 wh
   pub live : RunOut (advance (t .clock) (c .week * 604800 + c .second) .running) e → ⊥
 
 -- what holds of it in the table after
-pub record Settled (c : ServeCall) (u : Table) (j : ℕ) (e : Entry) : Type 0 where
+pub record PendingAfter (c : ServeCall) (u : Table) (j : ℕ) (e : Entry) : Type 0 where
   -- where no option is a right response it stays as it was
-  pub untouched : ((i : ℕ) → i < doneOptions c → Answers c i e → ⊥) → slotOf u j ≡ held e
+  pub untouched : ((i : ℕ) → i < doneOptions c → ResponseTo c i e → ⊥) → slotOf u j ≡ held e
   -- where option i is the first that is, and none behind it refreshes the entry, it is established, and else as it was
-  pub established : (i : ℕ) → FirstAnswer c i e → ((k : ℕ) → i < k → k < doneOptions c → Refreshes c k e → ⊥) → slotOf u j ≡ held (establish e)
+  pub established : (i : ℕ) → FirstResponse c i e → ((k : ℕ) → i < k → k < doneOptions c → RefreshOf c k e → ⊥) → slotOf u j ≡ held (establish e)
   -- it is established still where some behind it refresh the entry, unless one of them ends it
-  pub stays : (i : ℕ) → FirstAnswer c i e → ((k : ℕ) → i < k → k < doneOptions c → Refreshes c k e → llqOption (c .datagram) k .lease ≢ 0) → StillHeld u j e
+  pub stays : (i : ℕ) → FirstResponse c i e → ((k : ℕ) → i < k → k < doneOptions c → RefreshOf c k e → llqOption (c .datagram) k .lease ≢ 0) → StillHeld u j e
 
 abbrev pub EstablishedExactly : Server → Type 0
 EstablishedExactly s =
     (c : ServeCall) (b lent : List ℕ) → ServeInRange c → SoundBytes b → c .room ≡ length lent → s .serve c b lent .number ≡ 0
-    → (j : ℕ) (e : Entry) → Pending c (readTable b) j e → Settled c (readTable (s .serve c b lent .table)) j e
+    → (j : ℕ) (e : Entry) → Pending c (readTable b) j e → PendingAfter c (readTable (s .serve c b lent .table)) j e

@@ -1,19 +1,39 @@
 -- Wrong servers: document 01's impostors and the old box's five faults, each the model with one part wrong. Assumes nothing.
 use Prim.Native.Nat.{ℕ, zero, suc, _+_, _-_, _%_, _^_}
-use mathlib.Core.Bool.{Bool, true, false, not, cond, _&&_, _||_}
+use mathlib.Core.Bool.{Bool, not, cond, _&&_, _||_}
 use mathlib.Core.List.{List, [], _∷_, _++_, map}
-use lib.ListN.{length, getD, drop}
+use lib.ListN.{length, drop}
 use lib.Dec.{eqb, leb}
-use Rattle.model.specs.Lists.{count, any, indexOf, upTo}
+use Rattle.model.specs.Lists.{count, any, upTo}
 use Rattle.model.specs.Clock.{advance, placeOf, ageAt}
 use Rattle.model.specs.Query.{Question, LlqOption, question, llqOption, qdcount, matched}
-use Rattle.model.specs.Table.{Line, Entry, Slot, free, held, Table, tableBytes, readTable}
-use Rattle.model.specs.Rules.{Holding, Counts, holding, holdings, asks, numbered, heldBy, limitOf, shareOf, reserve}
-use Rattle.model.specs.Serve.{Sender, Outcome, Served, Kind, badVersion, badFormat, setup, response, refresh, withClock, withSlots, withSlot, isFree, findEntry, slotOf, freeIfRunOut, slotRunOut, movedOn, kindOfOption, serveOption, serveKind, onSetup, onResponse, rightLease, challenge, retryLater, granted, newEntry}
+use Rattle.model.specs.Table.{Entry, Slot, free, held, Table, tableBytes, readTable}
+use Rattle.model.specs.Rules.{holdings, asks, numbered, limitOf, shareOf, reserve}
+use Rattle.model.specs.Serve.{Sender, Outcome, Served, Kind, badVersion, badFormat, setup, response, refresh, isFree, findEntry, slotOf, movedOn, kindOfOption, serveOption, serveKind, onSetup, onResponse, rightLease, retryLater, granted}
 use Rattle.model.specs.Reply.{replyBytes, replyLength, mismatch}
-use Rattle.model.specs.Calls.{MakeCall, TickCall, ServeCall, Made, Ticked, Answered, make, tick, serve, freedBy, tickRefusal, serveRefusal}
-use Rattle.model.specs.Meets.{Server}
-use Rattle.claims.specs.Pins.{challenge as w11Reply}
+use Rattle.model.specs.Calls.{MakeCall, TickCall, ServeCall, Made, Ticked, Answered, madeBy, tickedBy, servedBy, tick, serve, tickRefusal, serveRefusal}
+use Rattle.model.specs.Meets.{Server, model}
+use Rattle.claims.specs.Pins.{challengeReply}
+
+-- A SERVER WITH ONE CALL OF ITS OWN, the others those of the server given: a further call is one line in each
+abbrev pub withMake : Server → (MakeCall → List ℕ → Made) → Server
+withMake s f = record { make = f; tick = s .tick; serve = s .serve }
+
+abbrev pub withTick : Server → (TickCall → List ℕ → Ticked) → Server
+withTick s f = record { make = s .make; tick = f; serve = s .serve }
+
+abbrev pub withServe : Server → (ServeCall → List ℕ → List ℕ → Answered) → Server
+withServe s f = record { make = s .make; tick = s .tick; serve = f }
+
+-- AN ANSWER WITH ONE PART OF ITS OWN, the others those of the answer given
+abbrev pub withFreed : Ticked → ℕ → Ticked
+withFreed a freed = record { number = a .number; freed = freed; table = a .table }
+
+abbrev pub withTable : Answered → List ℕ → Answered
+withTable a table = record { number = a .number; length = a .length; table = table; reply = a .reply }
+
+abbrev pub withReply : Answered → List ℕ → Answered
+withReply a reply = record { number = a .number; length = a .length; table = a .table; reply = reply }
 
 -- what an option does
 abbrev pub Does : Type 0
@@ -50,21 +70,16 @@ module _ (p : Parts) where
         freed = count (holdings (readTable b)) any - count (holdings (p .moves (readTable b) at)) any;
         table = tableBytes (p .moves (readTable b) at);
       }
-  tickWith (suc k) c b = record { number = suc k; freed = 0; table = b }
+  tickWith (suc k) c b = tickedBy (suc k) c b
 
   abbrev pub serveWith : ℕ → ServeCall → List ℕ → List ℕ → Answered
   serveWith zero c b lent =
-      let d = c .datagram in
-      record {
-        number = 0;
-        length = replyLength d;
-        table = tableBytes (tableAfterWith c (readTable b));
-        reply = replyBytes d (outcomesWith c (readTable b)) ++ drop (replyLength d) lent;
-      }
-  serveWith (suc k) c b lent = record { number = suc k; length = 0; table = b; reply = lent }
+      withReply (withTable (servedBy 0 c b lent) (tableBytes (tableAfterWith c (readTable b))))
+      (replyBytes (c .datagram) (outcomesWith c (readTable b)) ++ drop (replyLength (c .datagram)) lent)
+  serveWith (suc k) c b lent = servedBy (suc k) c b lent
 
   abbrev pub serverOf : Server
-  serverOf = record { make = make; tick = λ c b. tickWith (tickRefusal c b) c b; serve = λ c b lent. serveWith (serveRefusal c b) c b lent }
+  serverOf = withServe (withTick model (λ c b. tickWith (tickRefusal c b) c b)) (λ c b lent. serveWith (serveRefusal c b) c b lent)
 
 abbrev pub withOption : Does → Server
 withOption f = serverOf (record { moves = movedOn; option = f })
@@ -75,22 +90,11 @@ withMove f = serverOf (record { moves = f; option = serveOption })
 -- DOCUMENT 01'S IMPOSTORS
 
 abbrev pub refusesAll : Server
-refusesAll =
-    record {
-      make = λ c b. record { number = 2; table = b };
-      tick = λ c b. record { number = 2; freed = 0; table = b };
-      serve = λ c b lent. record { number = 2; length = 0; table = b; reply = lent };
-    }
+refusesAll = withServe (withTick (withMake model (madeBy 2)) (tickedBy 2)) (servedBy 2)
 
 -- one constant reply, W11's
 abbrev pub constantReply : Server
-constantReply =
-    record {
-      make = make;
-      tick = tick;
-      serve = λ c b lent. let a = serve c b lent in
-          record { number = a .number; length = a .length; table = a .table; reply = cond (eqb (a .number) 0) (w11Reply ++ drop 52 lent) lent };
-    }
+constantReply = withServe model (λ c b lent. let a = serve c b lent in withReply a (cond (eqb (a .number) 0) (challengeReply ++ drop 52 lent) lent))
 
 -- an option by its kind, with these for setup and response
 abbrev pub byKind : Does → Does → Kind → Does
@@ -117,35 +121,22 @@ saysFull = withNew (λ s r q o t. record { table = t; outcome = retryLater o })
 
 -- leaves the table untouched
 abbrev pub leavesTable : Server
-leavesTable =
-    record {
-      make = make;
-      tick = tick;
-      serve = λ c b lent. let a = serve c b lent in record { number = a .number; length = a .length; table = b; reply = a .reply };
-    }
+leavesTable = withServe model (λ c b lent. withTable (serve c b lent) b)
 
 -- serves question one and copies its option for the rest
 abbrev pub copiesFirst : Server
 copiesFirst =
-    record {
-      make = make;
-      tick = tick;
-      serve = λ c b lent. let a = serve c b lent in
-          record {
-            number = a .number;
-            length = a .length;
-            table = a .table;
-            reply =
-                cond (eqb (a .number) 0 && matched (c .datagram))
-                (replyBytes (c .datagram) (upTo (qdcount (c .datagram)) (λ i. outcomeWith right c (readTable b) 0)) ++ drop (a .length) lent)
-                (a .reply);
-          };
-    }
+    withServe model
+    (λ c b lent.
+    let a = serve c b lent in
+    withReply a
+    (cond (eqb (a .number) 0 && matched (c .datagram))
+    (replyBytes (c .datagram) (upTo (qdcount (c .datagram)) (λ i. outcomeWith right c (readTable b) 0)) ++ drop (a .length) lent)
+    (a .reply)))
 
 -- a tick that reports an invented number
 abbrev pub inventsFreed : Server
-inventsFreed =
-    record { make = make; tick = λ c b. let a = tick c b in record { number = a .number; freed = 1 + a .freed; table = a .table }; serve = serve }
+inventsFreed = withTick model (λ c b. withFreed (tick c b) (1 + tick c b .freed))
 
 -- grants without storing
 abbrev pub grantsUnstored : Server

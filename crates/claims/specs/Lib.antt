@@ -1,3 +1,4 @@
+pub mod Roster
 pub mod Tally
 pub mod Events
 pub mod Demand3
@@ -7,6 +8,7 @@ pub mod Established
 pub mod Tick
 pub mod Samples
 pub mod Pins
+pub mod CallBuilders
 pub mod Reply
 pub mod Impostors
 pub mod Repeats
@@ -14,5 +16,8 @@ pub mod Others
 pub mod LiveAge
 pub mod Reading
 pub mod AnySound
-pub mod Numbers
+pub mod NumbersInBytes
+pub mod GrantedNumbers
 pub mod SoundSamples
+pub mod StoredNames
+pub mod Step

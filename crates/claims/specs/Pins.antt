@@ -1,4 +1,5 @@
--- W11, and the table's bytes after its making, its setup and its response, written out from document 01's layout. Assumes nothing.
+-- W11, and the table's bytes after its making, its setup, its response and a refresh without RD, written out from document 01's layout.
+-- Assumes nothing.
 use Prim.Native.Nat.{ℕ, _+_, _*_, _^_}
 use mathlib.Core.Path.{_≡_}
 use mathlib.Core.List.{List, [], _∷_, _++_}
@@ -6,54 +7,74 @@ use lib.ListN.{length, replicate}
 use Rattle.model.specs.Serve.{Sender}
 use Rattle.model.specs.Calls.{MakeCall, ServeCall}
 use Rattle.model.specs.Meets.{Server}
+use Rattle.claims.specs.CallBuilders.{makeAt, datagramAt}
 
 abbrev pub zeros : ℕ → List ℕ
 zeros k = replicate k 0
 
 -- W11's query: message number 0x1234, RD, one question (a., PTR, IN), OPT, one LLQ option: a setup asking 3,600 seconds
-abbrev pub query : List ℕ
-query =
+abbrev pub setupQuery : List ℕ
+setupQuery =
     0x12 ∷ 0x34 ∷ 0x01 ∷ 0 ∷ 0 ∷ 1 ∷ 0 ∷ 0 ∷ 0 ∷ 0 ∷ 0 ∷ 1
     ∷ 1 ∷ 0x61 ∷ 0 ∷ 0 ∷ 0x0C ∷ 0 ∷ 1
     ∷ 0 ∷ 0 ∷ 0x29 ∷ 0x05 ∷ 0xC0 ∷ 0 ∷ 0 ∷ 0 ∷ 0 ∷ 0 ∷ 0x16
     ∷ 0 ∷ 1 ∷ 0 ∷ 0x12 ∷ 0 ∷ 1 ∷ 0 ∷ 1 ∷ 0 ∷ 0 ∷ 0 ∷ 0 ∷ 0 ∷ 0 ∷ 0 ∷ 0 ∷ 0 ∷ 0 ∷ 0 ∷ 0 ∷ 0x0E ∷ 0x10 ∷ []
 
 -- W11's reply: the same but 0x85 for the third byte, and number 7
-abbrev pub challenge : List ℕ
-challenge =
+abbrev pub challengeReply : List ℕ
+challengeReply =
     0x12 ∷ 0x34 ∷ 0x85 ∷ 0 ∷ 0 ∷ 1 ∷ 0 ∷ 0 ∷ 0 ∷ 0 ∷ 0 ∷ 1
     ∷ 1 ∷ 0x61 ∷ 0 ∷ 0 ∷ 0x0C ∷ 0 ∷ 1
     ∷ 0 ∷ 0 ∷ 0x29 ∷ 0x05 ∷ 0xC0 ∷ 0 ∷ 0 ∷ 0 ∷ 0 ∷ 0 ∷ 0x16
     ∷ 0 ∷ 1 ∷ 0 ∷ 0x12 ∷ 0 ∷ 1 ∷ 0 ∷ 1 ∷ 0 ∷ 0 ∷ 0 ∷ 0 ∷ 0 ∷ 0 ∷ 0 ∷ 0 ∷ 0 ∷ 7 ∷ 0 ∷ 0 ∷ 0x0E ∷ 0x10 ∷ []
 
 -- its response: the number and the granted lease repeated
-abbrev pub response : List ℕ
-response =
+abbrev pub responseQuery : List ℕ
+responseQuery =
     0x12 ∷ 0x35 ∷ 0x01 ∷ 0 ∷ 0 ∷ 1 ∷ 0 ∷ 0 ∷ 0 ∷ 0 ∷ 0 ∷ 1
     ∷ 1 ∷ 0x41 ∷ 0 ∷ 0 ∷ 0x0C ∷ 0 ∷ 1
     ∷ 0 ∷ 0 ∷ 0x29 ∷ 0x05 ∷ 0xC0 ∷ 0 ∷ 0 ∷ 0 ∷ 0 ∷ 0 ∷ 0x16
     ∷ 0 ∷ 1 ∷ 0 ∷ 0x12 ∷ 0 ∷ 1 ∷ 0 ∷ 1 ∷ 0 ∷ 0 ∷ 0 ∷ 0 ∷ 0 ∷ 0 ∷ 0 ∷ 0 ∷ 0 ∷ 7 ∷ 0 ∷ 0 ∷ 0x0E ∷ 0x10 ∷ []
 
 -- its acknowledgment, three seconds after the setup: lease less age is 3,597
-abbrev pub acknowledgment : List ℕ
-acknowledgment =
+abbrev pub acknowledgmentReply : List ℕ
+acknowledgmentReply =
     0x12 ∷ 0x35 ∷ 0x85 ∷ 0 ∷ 0 ∷ 1 ∷ 0 ∷ 0 ∷ 0 ∷ 0 ∷ 0 ∷ 1
     ∷ 1 ∷ 0x41 ∷ 0 ∷ 0 ∷ 0x0C ∷ 0 ∷ 1
     ∷ 0 ∷ 0 ∷ 0x29 ∷ 0x05 ∷ 0xC0 ∷ 0 ∷ 0 ∷ 0 ∷ 0 ∷ 0 ∷ 0x16
     ∷ 0 ∷ 1 ∷ 0 ∷ 0x12 ∷ 0 ∷ 1 ∷ 0 ∷ 1 ∷ 0 ∷ 0 ∷ 0 ∷ 0 ∷ 0 ∷ 0 ∷ 0 ∷ 0 ∷ 0 ∷ 7 ∷ 0 ∷ 0 ∷ 0x0E ∷ 0x0D ∷ []
 
--- CALLS: made at week 1, second 2; asked at second 7; answered at second 10; from 192.0.2.1, mapped, port 5353; host number 7
+-- a refresh with RD 0, asking 7,200 seconds
+abbrev pub refreshQuery : List ℕ
+refreshQuery =
+    0x13 ∷ 0x37 ∷ 0 ∷ 0 ∷ 0 ∷ 1 ∷ 0 ∷ 0 ∷ 0 ∷ 0 ∷ 0 ∷ 1
+    ∷ 1 ∷ 0x61 ∷ 0 ∷ 0 ∷ 0x0C ∷ 0 ∷ 1
+    ∷ 0 ∷ 0 ∷ 0x29 ∷ 0x05 ∷ 0xC0 ∷ 0 ∷ 0 ∷ 0 ∷ 0 ∷ 0 ∷ 0x16
+    ∷ 0 ∷ 1 ∷ 0 ∷ 0x12 ∷ 0 ∷ 1 ∷ 0 ∷ 2 ∷ 0 ∷ 0 ∷ 0 ∷ 0 ∷ 0 ∷ 0 ∷ 0 ∷ 0 ∷ 0 ∷ 7 ∷ 0 ∷ 0 ∷ 0x1C ∷ 0x20 ∷ []
+
+-- its answer: 0x84 for the third byte, the number and the lease granted
+abbrev pub renewalReply : List ℕ
+renewalReply =
+    0x13 ∷ 0x37 ∷ 0x84 ∷ 0 ∷ 0 ∷ 1 ∷ 0 ∷ 0 ∷ 0 ∷ 0 ∷ 0 ∷ 1
+    ∷ 1 ∷ 0x61 ∷ 0 ∷ 0 ∷ 0x0C ∷ 0 ∷ 1
+    ∷ 0 ∷ 0 ∷ 0x29 ∷ 0x05 ∷ 0xC0 ∷ 0 ∷ 0 ∷ 0 ∷ 0 ∷ 0 ∷ 0x16
+    ∷ 0 ∷ 1 ∷ 0 ∷ 0x12 ∷ 0 ∷ 1 ∷ 0 ∷ 2 ∷ 0 ∷ 0 ∷ 0 ∷ 0 ∷ 0 ∷ 0 ∷ 0 ∷ 0 ∷ 0 ∷ 7 ∷ 0 ∷ 0 ∷ 0x1C ∷ 0x20 ∷ []
+
+-- CALLS: made at week 1, second 2; asked at second 7; answered at second 10; refreshed at second 20; from 192.0.2.1, mapped, port 5353; host number 7
 abbrev pub sender : Sender
 sender = record { address = 0xFFFF_C000_0201; port = 5353 }
 
 abbrev pub makeCall : MakeCall
-makeCall = record { week = 1; second = 2; roster = [] }
+makeCall = makeAt 1 2 []
 
 abbrev pub setupCall : ServeCall
-setupCall = record { week = 1; second = 7; sender = sender; random = 7; datagram = query; room = 60 }
+setupCall = datagramAt 1 7 sender 7 setupQuery 60
 
 abbrev pub responseCall : ServeCall
-responseCall = record { week = 1; second = 10; sender = sender; random = 9; datagram = response; room = 60 }
+responseCall = datagramAt 1 10 sender 9 responseQuery 60
+
+abbrev pub refreshCall : ServeCall
+refreshCall = datagramAt 1 20 sender 9 refreshQuery 60
 
 -- THE TABLE of 4 slots, 1,593 bytes
 -- clock: kind 1, place 4, running count 4
@@ -71,45 +92,60 @@ rosterPin =
 abbrev pub freePin : List ℕ
 freePin = 4 ∷ zeros 319
 
--- kind; address 16, port 2, LLQ number 8, granted lease 4, stamp 4, type 2, class 2, name length 1, name 255, 25 zeros
-abbrev pub entryPin : ℕ → List ℕ
-entryPin kind =
+-- kind; address 16, port 2, LLQ number 8, granted lease 4, stamp 4, type 2, class 2, name length 1, name 255, 25 zeros; by its kind, the lease's
+-- last two bytes and the stamp's last
+abbrev pub entryPin : ℕ → ℕ → ℕ → ℕ → List ℕ
+entryPin kind high low stamp =
     kind
     ∷ 0 ∷ 0 ∷ 0 ∷ 0 ∷ 0 ∷ 0 ∷ 0 ∷ 0 ∷ 0 ∷ 0 ∷ 0xFF ∷ 0xFF ∷ 0xC0 ∷ 0 ∷ 0x02 ∷ 0x01
     ∷ 0x14 ∷ 0xE9
     ∷ 0 ∷ 0 ∷ 0 ∷ 0 ∷ 0 ∷ 0 ∷ 0 ∷ 7
-    ∷ 0 ∷ 0 ∷ 0x0E ∷ 0x10
-    ∷ 0 ∷ 0 ∷ 0 ∷ 5
+    ∷ 0 ∷ 0 ∷ high ∷ low
+    ∷ 0 ∷ 0 ∷ 0 ∷ stamp
     ∷ 0 ∷ 0x0C
     ∷ 0 ∷ 1
     ∷ 3
     ∷ 1 ∷ 0x61 ∷ 0 ∷ (zeros 252 ++ zeros 25)
 
--- place 604,802 and count 0; 604,807 and 5; 604,810 and 8
+-- place 604,802 and count 0; 604,807 and 5; 604,810 and 8; 604,820 and 18, with the new lease stamped 18
 abbrev pub madePin : List ℕ
 madePin = clockPin 0x82 0 ++ rosterPin ++ freePin ++ freePin ++ freePin ++ freePin
 
 abbrev pub pendingPin : List ℕ
-pendingPin = clockPin 0x87 5 ++ rosterPin ++ entryPin 5 ++ freePin ++ freePin ++ freePin
+pendingPin = clockPin 0x87 5 ++ rosterPin ++ entryPin 5 0x0E 0x10 5 ++ freePin ++ freePin ++ freePin
 
 abbrev pub establishedPin : List ℕ
-establishedPin = clockPin 0x8A 8 ++ rosterPin ++ entryPin 6 ++ freePin ++ freePin ++ freePin
+establishedPin = clockPin 0x8A 8 ++ rosterPin ++ entryPin 6 0x0E 0x10 5 ++ freePin ++ freePin ++ freePin
 
--- a roster of one line: kind 3, address 16 (192.0.2.9, mapped), share 1, limit 2
-abbrev pub linePin : List ℕ
-linePin = 3 ∷ 0 ∷ 0 ∷ 0 ∷ 0 ∷ 0 ∷ 0 ∷ 0 ∷ 0 ∷ 0 ∷ 0 ∷ 0xFF ∷ 0xFF ∷ 0xC0 ∷ 0 ∷ 0x02 ∷ 0x09 ∷ 1 ∷ 2 ∷ []
+abbrev pub renewedPin : List ℕ
+renewedPin = clockPin 0x94 18 ++ rosterPin ++ entryPin 6 0x1C 0x20 18 ++ freePin ++ freePin ++ freePin
 
--- the table of one slot that it is made with, 633 bytes: the line stands first, 15 unused lines behind it
+-- a roster of two lines: kind 3, address 16 (2001:db8::5), share 0, limit 3; and address 192.0.2.9, mapped, share 1, limit 2
+abbrev pub rosterGiven : List ℕ
+rosterGiven =
+    3 ∷ 0x20 ∷ 0x01 ∷ 0x0D ∷ 0xB8 ∷ 0 ∷ 0 ∷ 0 ∷ 0 ∷ 0 ∷ 0 ∷ 0 ∷ 0 ∷ 0 ∷ 0 ∷ 0 ∷ 0x05 ∷ 0 ∷ 3
+    ∷ 3 ∷ 0 ∷ 0 ∷ 0 ∷ 0 ∷ 0 ∷ 0 ∷ 0 ∷ 0 ∷ 0 ∷ 0 ∷ 0xFF ∷ 0xFF ∷ 0xC0 ∷ 0 ∷ 0x02 ∷ 0x09 ∷ 1 ∷ 2 ∷ []
+
+-- its lines in a table
+abbrev pub firstPin : List ℕ
+firstPin = 3 ∷ 0x20 ∷ 0x01 ∷ 0x0D ∷ 0xB8 ∷ 0 ∷ 0 ∷ 0 ∷ 0 ∷ 0 ∷ 0 ∷ 0 ∷ 0 ∷ 0 ∷ 0 ∷ 0 ∷ 0x05 ∷ 0 ∷ 3 ∷ []
+
+abbrev pub secondPin : List ℕ
+secondPin = 3 ∷ 0 ∷ 0 ∷ 0 ∷ 0 ∷ 0 ∷ 0 ∷ 0 ∷ 0 ∷ 0 ∷ 0 ∷ 0xFF ∷ 0xFF ∷ 0xC0 ∷ 0 ∷ 0x02 ∷ 0x09 ∷ 1 ∷ 2 ∷ []
+
+-- the table of one slot that it is made with, 633 bytes: the lines stand first, in the order given, 14 unused lines behind them
 abbrev pub listedPin : List ℕ
 listedPin =
-    clockPin 0x82 0 ++ linePin ++ unusedPin ++ unusedPin ++ unusedPin ++ unusedPin ++ unusedPin ++ unusedPin ++ unusedPin ++ unusedPin ++ unusedPin ++ unusedPin ++ unusedPin
+    clockPin 0x82 0 ++ firstPin ++ secondPin ++ unusedPin ++ unusedPin ++ unusedPin ++ unusedPin ++ unusedPin ++ unusedPin ++ unusedPin ++ unusedPin ++ unusedPin ++ unusedPin
     ++ unusedPin ++ unusedPin ++ unusedPin ++ unusedPin ++ freePin
 
--- a server makes, challenges and acknowledges as written out; 8 bytes past each reply keep what they held
+-- a server makes, challenges, acknowledges and renews as written out; 8 bytes past each reply keep what they held
 pub record Pinned (s : Server) : Type 0 where
   pub size : length madePin ≡ 1593
   pub made : s .make makeCall (replicate 1593 0xEE) ≡ record { number = 0; table = madePin }
-  pub listed : s .make (record { week = 1; second = 2; roster = linePin }) (replicate 633 0xEE) ≡ record { number = 0; table = listedPin }
-  pub challenged : s .serve setupCall madePin (replicate 60 0xAA) ≡ record { number = 0; length = 52; table = pendingPin; reply = challenge ++ replicate 8 0xAA }
+  pub listed : s .make (makeAt 1 2 rosterGiven) (replicate 633 0xEE) ≡ record { number = 0; table = listedPin }
+  pub challenged : s .serve setupCall madePin (replicate 60 0xAA) ≡ record { number = 0; length = 52; table = pendingPin; reply = challengeReply ++ replicate 8 0xAA }
   pub acknowledged : s .serve responseCall pendingPin (replicate 60 0xAA)
-      ≡ record { number = 0; length = 52; table = establishedPin; reply = acknowledgment ++ replicate 8 0xAA }
+      ≡ record { number = 0; length = 52; table = establishedPin; reply = acknowledgmentReply ++ replicate 8 0xAA }
+  pub renewed : s .serve refreshCall establishedPin (replicate 60 0xAA)
+      ≡ record { number = 0; length = 52; table = renewedPin; reply = renewalReply ++ replicate 8 0xAA }

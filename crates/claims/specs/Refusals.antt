@@ -3,14 +3,16 @@
 -- length test, which `Reading` spells out.
 use Prim.Native.Nat.{ℕ, zero, suc, _+_, _-_, _*_, _/_, _%_, _≤_, _<_}
 use mathlib.Core.Path.{_≡_}
+use mathlib.Core.Bool.{cond}
 use mathlib.Core.List.{List, [], _∷_}
 use mathlib.Core.Logic.{_⊎_, _≢_}
 use lib.ListN.{length, getD}
 use Rattle.model.specs.Numbers.{Bytes, part}
+use Rattle.model.specs.Query.{matched}
 use Rattle.model.specs.Sound.{SoundBytes}
-use Rattle.model.specs.Reply.{replyOptions}
 use Rattle.model.specs.Calls.{MakeCall, TickCall, ServeCall}
 use Rattle.model.specs.Meets.{Server}
+use Rattle.claims.specs.Roster.{kindAt, shareAt, limitAt}
 use Rattle.claims.specs.Events.{MakeInRange, TickInRange, ServeInRange}
 
 -- number x is k where the condition holds, and otherwise as the rest says
@@ -40,19 +42,19 @@ pub data SizeFault (d : List ℕ) : Type 0 where
   over : 1472 < length d → SizeFault d
 
 -- a number of two bytes
-abbrev pub two : List ℕ → ℕ → ℕ
-two d at = getD d at 0 * 256 + getD d (at + 1) 0
+abbrev pub twoBytes : List ℕ → ℕ → ℕ
+twoBytes d at = getD d at 0 * 256 + getD d (at + 1) 0
 
 -- 4: HEADER
 pub data HeaderFault (d : List ℕ) : Type 0 where
-  isResponse : 128 ≤ getD d 2 0 → HeaderFault d
+  notQuery : 128 ≤ getD d 2 0 → HeaderFault d
   otherOpcode : getD d 2 0 / 8 % 16 ≢ 0 → HeaderFault d
   truncated : getD d 2 0 / 2 % 2 ≢ 0 → HeaderFault d
-  noQuestion : two d 4 < 1 → HeaderFault d
-  manyQuestions : 8 < two d 4 → HeaderFault d
-  hasAnswers : two d 6 ≢ 0 → HeaderFault d
-  hasAuthorities : two d 8 ≢ 0 → HeaderFault d
-  notOneAdditional : two d 10 ≢ 1 → HeaderFault d
+  noQuestion : twoBytes d 4 < 1 → HeaderFault d
+  manyQuestions : 8 < twoBytes d 4 → HeaderFault d
+  hasAnswers : twoBytes d 6 ≢ 0 → HeaderFault d
+  hasAuthorities : twoBytes d 8 ≢ 0 → HeaderFault d
+  notOneAdditional : twoBytes d 10 ≢ 1 → HeaderFault d
 
 -- 5: QUESTIONS
 -- a label of the name that starts at p starts at q: the first, or behind one of 1 to 63 bytes
@@ -75,54 +77,49 @@ pub data Starts (d : List ℕ) : ℕ → ℕ → Type 0 where
 
 pub data QuestionFault (d : List ℕ) : Type 0 where
   -- a question runs past the end, in its name
-  nameRunsOut : (i p q : ℕ) → i < two d 4 → Starts d i p → Label d p q → length d ≤ q → QuestionFault d
+  nameRunsOut : (i p q : ℕ) → i < twoBytes d 4 → Starts d i p → Label d p q → length d ≤ q → QuestionFault d
   -- or behind it
-  typeRunsOut : (i p e : ℕ) → i < two d 4 → Starts d i p → NameEnds d p e → length d < e + 4 → QuestionFault d
+  typeRunsOut : (i p e : ℕ) → i < twoBytes d 4 → Starts d i p → NameEnds d p e → length d < e + 4 → QuestionFault d
   -- it has a label byte of 64 or more
-  labelTooLarge : (i p q : ℕ) → i < two d 4 → Starts d i p → Label d p q → q < length d → 64 ≤ getD d q 0 → QuestionFault d
+  labelTooLarge : (i p q : ℕ) → i < twoBytes d 4 → Starts d i p → Label d p q → q < length d → 64 ≤ getD d q 0 → QuestionFault d
   -- or a name over 255 bytes
-  nameTooLong : (i p e : ℕ) → i < two d 4 → Starts d i p → NameEnds d p e → 255 + p < e → QuestionFault d
+  nameTooLong : (i p e : ℕ) → i < twoBytes d 4 → Starts d i p → NameEnds d p e → 255 + p < e → QuestionFault d
 
 -- 6: OPT
 -- an option starts at q in data that starts at p: the first, or behind a whole one
 pub data OptionStarts (d : List ℕ) (p : ℕ) : ℕ → Type 0 where
   first : OptionStarts d p p
-  next : (q r : ℕ) → OptionStarts d p q → r ≡ q + 4 + two d (q + 2) → r ≤ length d → OptionStarts d p r
+  next : (q r : ℕ) → OptionStarts d p q → r ≡ q + 4 + twoBytes d (q + 2) → r ≤ length d → OptionStarts d p r
 
 -- the OPT record behind the questions, at place `at`
 pub data OptFault (d : List ℕ) (at : ℕ) : Type 0 where
   tooShort : length d < at + 11 → OptFault d at
   notRoot : getD d at 0 ≢ 0 → OptFault d at
-  notOpt : two d (at + 1) ≢ 41 → OptFault d at
+  notOpt : twoBytes d (at + 1) ≢ 41 → OptFault d at
   otherVersion : getD d (at + 6) 0 ≢ 0 → OptFault d at
-  dataNotToEnd : at + 11 + two d (at + 9) ≢ length d → OptFault d at
+  dataNotToEnd : at + 11 + twoBytes d (at + 9) ≢ length d → OptFault d at
   -- an option that does not fit what is left
-  optionsNotFilling : (q : ℕ) → OptionStarts d (at + 11) q → q < length d → length d < q + 4 + two d (q + 2) → OptFault d at
+  optionsNotFilling : (q : ℕ) → OptionStarts d (at + 11) q → q < length d → length d < q + 4 + twoBytes d (q + 2) → OptFault d at
 
 -- 7: NO OPTION OF CODE 1
 abbrev pub NoLlqOption : List ℕ → ℕ → Type 0
-NoLlqOption d at = (q : ℕ) → OptionStarts d (at + 11) q → q < length d → two d q ≢ 1
+NoLlqOption d at = (q : ℕ) → OptionStarts d (at + 11) q → q < length d → twoBytes d q ≢ 1
 
 -- of the place where the questions end
 abbrev pub BehindQuestions : List ℕ → (ℕ → Type 0) → Type 0
-BehindQuestions d P = (at : ℕ) × (Starts d (two d 4) at × P at)
+BehindQuestions d P = (at : ℕ) × (Starts d (twoBytes d 4) at × P at)
 
 -- 8: REPLY LONGER THAN THE LENT BUFFER OR THAN 1,472
--- 12 + questions + 11 + 22 for each option, of a datagram whose questions end at place `at`
+-- 12 + questions + 11 + 22 for each option, of a datagram whose questions end at place `at`: as many options as questions, or one where the count
+-- and length test fails
 abbrev pub lengthOf : List ℕ → ℕ → ℕ
-lengthOf d at = at + 11 + 22 * replyOptions d
+lengthOf d at = at + 11 + 22 * cond (matched d) (twoBytes d 4) 1
 
 pub data ReplyFault (d : List ℕ) (room at : ℕ) : Type 0 where
   overBuffer : room < lengthOf d at → ReplyFault d room at
   overLimit : 1472 < lengthOf d at → ReplyFault d room at
 
 -- 9: ROSTER, of a table of n slots
-abbrev pub shareAt : List ℕ → ℕ → ℕ
-shareAt r i = getD r (19 * i + 17) 0
-
-abbrev pub limitAt : List ℕ → ℕ → ℕ
-limitAt r i = getD r (19 * i + 18) 0
-
 -- the shares of the first m records
 abbrev pub shareTotal : List ℕ → ℕ → ℕ
 shareTotal r zero = 0
@@ -131,7 +128,7 @@ shareTotal r (suc m) = shareTotal r m + shareAt r m
 pub data RosterFault (n : ℕ) (r : List ℕ) : Type 0 where
   notWhole : ((m : ℕ) → length r ≢ 19 * m) → RosterFault n r
   tooMany : 19 * 16 < length r → RosterFault n r
-  otherKind : (i : ℕ) → 19 * i < length r → getD r (19 * i) 0 ≢ 3 → RosterFault n r
+  otherKind : (i : ℕ) → 19 * i < length r → kindAt r i ≢ 3 → RosterFault n r
   shareOverLimit : (i : ℕ) → 19 * i < length r → limitAt r i < shareAt r i → RosterFault n r
   limitZero : (i : ℕ) → 19 * i < length r → limitAt r i < 1 → RosterFault n r
   limitOver : (i : ℕ) → 19 * i < length r → 64 < limitAt r i → RosterFault n r

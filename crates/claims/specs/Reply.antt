@@ -1,11 +1,11 @@
 -- Claim 7: an answered datagram's reply, place by place. Assumes nothing.
-use Prim.Native.Nat.{ℕ, _+_, _-_, _*_, _<_, _≤_}
+use Prim.Native.Nat.{ℕ, _+_, _-_, _*_, _%_, _<_, _≤_}
 use mathlib.Core.Path.{_≡_}
 use mathlib.Core.Bool.{true, false, cond}
 use mathlib.Core.List.{List}
 use lib.ListN.{length, getD, drop}
 use Rattle.model.specs.Numbers.{bigEndian}
-use Rattle.model.specs.Query.{flagRD, qdcount, questionsEnd, matched, llqOption}
+use Rattle.model.specs.Query.{qdcount, questionsEnd, matched, llqOption}
 use Rattle.model.specs.Table.{readTable}
 use Rattle.model.specs.Sound.{SoundBytes}
 use Rattle.model.specs.Calls.{ServeCall, outcomeOf}
@@ -41,8 +41,8 @@ pub record Reply (c : ServeCall) (b lent reply : List ℕ) (k : ℕ) : Type 0 wh
   -- the header: the message number repeated
   pub number0 : getD reply 0 0 ≡ getD (c .datagram) 0 0
   pub number1 : getD reply 1 0 ≡ getD (c .datagram) 1 0
-  -- flags: 0x84 plus the RD bit, 0
-  pub flags2 : getD reply 2 0 ≡ 132 + flagRD (c .datagram)
+  -- flags: 0x84 plus the RD bit, the last of the datagram's third byte; 0
+  pub flags2 : getD reply 2 0 ≡ 132 + getD (c .datagram) 2 0 % 2
   pub flags3 : getD reply 3 0 ≡ 0
   -- QDCOUNT repeated, ANCOUNT 0, NSCOUNT 0, ARCOUNT 1
   pub qdcount4 : getD reply 4 0 ≡ getD (c .datagram) 4 0

@@ -1,4 +1,5 @@
--- Claim 6: document 01's samples W1 to W10, one table under one statement, of the definitions that contracts and claims cite. Assumes nothing.
+-- Claim 6: document 01's samples W1 to W10, and two steps beside them, one table under one statement, of the definitions that contracts and
+-- claims cite. Assumes nothing.
 use Prim.Native.Nat.{ℕ, zero, suc, _+_, _^_}
 use mathlib.Core.Path.{_≡_}
 use mathlib.Core.Bool.{Bool, true, false}
@@ -45,6 +46,8 @@ samples =
     (step 619315199 0, pos 1)  -- W1
     ∷ (step 0 309657600, negsuc 309657599)  -- W2: −309,657,600
     ∷ (step 10 9, negsuc 0)  -- W3: −1
+    ∷ (step 604802 604802, pos 0)  -- beside W1 to W3: the same place,
+    ∷ (step 0 309657599, pos 309657599)  -- and the upper end of the range; W2 is the lower
     ∷ (pos (ageAt 4 4294967290), pos 10)  -- W4
     ∷ (pos (bit (runOut 59 60)), pos 0)  -- W5: live
     ∷ (pos (bit (runOut 60 60)), pos 1)  -- W6: run out

@@ -2,39 +2,86 @@
 use Prim.Native.Nat.{ℕ, _+_, _*_}
 use mathlib.Core.Path.{_≡_}
 use mathlib.Core.Bool.{Bool, true, false}
-use mathlib.Core.List.{List, [], _∷_, _++_}
+use mathlib.Core.List.{List, [], _∷_, _++_, map}
 use lib.ListN.{replicate, set}
 use Rattle.model.specs.Table.{Line, Entry, Slot, free, held, Table, tableBytes}
 use Rattle.model.specs.Sound.{soundTable, soundBytes}
 
--- a pending entry of address 9, of age 0 at a running count of 100
-abbrev pub entry : ℕ → ℕ → ℕ → ℕ → List ℕ → Slot
-entry port number lease stamp name =
-    held (record { established = false; address = 9; port = port; number = number; lease = lease; stamp = stamp; qtype = 12; qclass = 1; name = name })
+-- an entry of address 9
+abbrev pub entry : Bool → ℕ → ℕ → ℕ → ℕ → List ℕ → Slot
+entry established port number lease stamp name =
+    held (record { established = established; address = 9; port = port; number = number; lease = lease; stamp = stamp; qtype = 12; qclass = 1; name = name })
 
 abbrev pub line : ℕ → ℕ → ℕ → Line
 line address share limit = record { address = address; share = share; limit = limit }
 
+-- at a running count of 100
 abbrev pub table : ℕ → List Line → List Slot → Table
 table place ls ss = record { clock = record { place = place; running = 100 }; roster = ls; slots = ss }
 
--- one entry, by its number, lease, stamp and name, beside a free slot
-abbrev pub one : ℕ → ℕ → ℕ → List ℕ → Bool
-one number lease stamp name = soundTable (table 5 [] (entry 1 number lease stamp name ∷ free ∷ []))
-
--- two entries, by the second's port and number
-abbrev pub two : ℕ → ℕ → Bool
-two port number = soundTable (table 5 [] (entry 1 7 60 100 (1 ∷ 97 ∷ 0 ∷ []) ∷ entry port number 60 100 (1 ∷ 97 ∷ 0 ∷ []) ∷ []))
-
--- four entries of address 9, and a fifth, with a roster
 abbrev pub name : List ℕ
 name = 1 ∷ 97 ∷ 0 ∷ []
 
+-- ONE ENTRY, by its number, lease, stamp and name, and whether it is sound
+pub record EntrySample : Type 0 where
+  pub number : ℕ
+  pub lease : ℕ
+  pub stamp : ℕ
+  pub name : List ℕ
+  pub sound : Bool
+
+abbrev pub sample : ℕ → ℕ → ℕ → List ℕ → Bool → EntrySample
+sample number lease stamp name sound = record { number = number; lease = lease; stamp = stamp; name = name; sound = sound }
+
+abbrev pub named : List ℕ → Bool → EntrySample
+named name sound = sample 7 60 100 name sound
+
+abbrev pub entrySamples : List EntrySample
+entrySamples =
+    sample 0 60 100 name false  -- numbers are non-zero
+    ∷ sample 18446744073709551615 60 100 name true
+    ∷ sample 7 59 100 name false  -- leases are 60 to 7,200
+    ∷ sample 7 7200 100 name true
+    ∷ sample 7 7201 100 name false
+    ∷ sample 7 60 41 name true  -- ages are under leases: 59, 60, and a stamp ahead of the count
+    ∷ sample 7 60 40 name false
+    ∷ sample 7 60 101 name false
+    ∷ named (0 ∷ []) true  -- names: the root,
+    ∷ named [] false  -- nothing,
+    ∷ named (1 ∷ 65 ∷ 0 ∷ []) false  -- upper case at both ends,
+    ∷ named (1 ∷ 90 ∷ 0 ∷ []) false
+    ∷ named (1 ∷ 64 ∷ 0 ∷ []) true  -- beside it,
+    ∷ named (1 ∷ 91 ∷ 0 ∷ []) true
+    ∷ named (2 ∷ 97 ∷ 98 ∷ 0 ∷ []) true  -- of two letters, in the first, in the last,
+    ∷ named (2 ∷ 65 ∷ 98 ∷ 0 ∷ []) false
+    ∷ named (2 ∷ 97 ∷ 66 ∷ 0 ∷ []) false
+    ∷ named (1 ∷ 97 ∷ 1 ∷ 98 ∷ 0 ∷ []) true  -- of two labels, in the first, in the second,
+    ∷ named (1 ∷ 65 ∷ 1 ∷ 98 ∷ 0 ∷ []) false
+    ∷ named (1 ∷ 97 ∷ 1 ∷ 66 ∷ 0 ∷ []) false
+    ∷ named (63 ∷ (replicate 63 97 ++ (0 ∷ []))) true  -- labels of 63 and 64 bytes,
+    ∷ named (64 ∷ (replicate 64 97 ++ (0 ∷ []))) false
+    ∷ named (1 ∷ 97 ∷ 0 ∷ 0 ∷ []) false  -- labels that end before the stated length,
+    ∷ named (1 ∷ 97 ∷ 0 ∷ 1 ∷ 98 ∷ 0 ∷ []) false
+    ∷ named (2 ∷ 97 ∷ 0 ∷ []) false  -- and behind it
+    ∷ named (1 ∷ 97 ∷ []) false
+    ∷ []
+
+-- pending or established, beside a free slot
+abbrev pub one : Bool → EntrySample → Bool × Bool
+one established e = (soundTable (table 5 [] (entry established 1 (e .number) (e .lease) (e .stamp) (e .name) ∷ free ∷ [])), e .sound)
+
+-- TABLES
+
+-- two entries, by the second's state, port and number
+abbrev pub two : Bool → ℕ → ℕ → Bool
+two established port number = soundTable (table 5 [] (entry false 1 7 60 100 name ∷ entry established port number 60 100 name ∷ []))
+
+-- four entries of address 9, two of them established, and a fifth, with a roster
 abbrev pub four : List Slot
-four = entry 1 11 60 100 name ∷ entry 2 12 60 100 name ∷ entry 3 13 60 100 name ∷ entry 4 14 60 100 name ∷ []
+four = entry false 1 11 60 100 name ∷ entry true 2 12 60 100 name ∷ entry false 3 13 60 100 name ∷ entry true 4 14 60 100 name ∷ []
 
 abbrev pub five : List Line → Bool
-five ls = soundTable (table 5 ls (four ++ (entry 5 15 60 100 name ∷ free ∷ [])))
+five ls = soundTable (table 5 ls (four ++ (entry false 5 15 60 100 name ∷ free ∷ [])))
 
 -- a roster on two free slots
 abbrev pub roster : List Line → Bool
@@ -42,11 +89,11 @@ roster ls = soundTable (table 5 ls (free ∷ free ∷ []))
 
 -- the bytes of a table of one entry and one free slot, with byte i changed to x
 abbrev pub damaged : ℕ → ℕ → Bool
-damaged i x = soundBytes (set (tableBytes (table 5 [] (entry 1 7 60 100 name ∷ free ∷ []))) i x)
+damaged i x = soundBytes (set (tableBytes (table 5 [] (entry false 1 7 60 100 name ∷ free ∷ []))) i x)
 
 -- computed beside expected
-abbrev pub soundSamples : List (Bool × Bool)
-soundSamples =
+abbrev pub tableSamples : List (Bool × Bool)
+tableSamples =
     (soundTable (table 619315199 [] (free ∷ [])), true)  -- the last place is under 619,315,200
     ∷ (soundTable (table 619315200 [] (free ∷ [])), false)
     ∷ (soundTable (table 5 [] []), false)  -- 1 to 64 slots
@@ -59,26 +106,12 @@ soundSamples =
     ∷ (roster (line 1 1 1 ∷ line 2 1 1 ∷ []), true)  -- shares sum to at most n
     ∷ (roster (line 1 1 1 ∷ line 2 2 2 ∷ []), false)
     ∷ (roster (line 1 0 1 ∷ line 1 0 1 ∷ []), false)  -- listed addresses differ
-    ∷ (one 0 60 100 name, false)  -- numbers are non-zero
-    ∷ (one 18446744073709551615 60 100 name, true)
-    ∷ (one 7 59 100 name, false)  -- leases are 60 to 7,200
-    ∷ (one 7 7200 100 name, true)
-    ∷ (one 7 7201 100 name, false)
-    ∷ (one 7 60 41 name, true)  -- ages are under leases: 59, 60, and a stamp ahead of the count
-    ∷ (one 7 60 40 name, false)
-    ∷ (one 7 60 101 name, false)
-    ∷ (one 7 60 100 (0 ∷ []), true)  -- names: the root,
-    ∷ (one 7 60 100 [], false)  -- nothing,
-    ∷ (one 7 60 100 (1 ∷ 65 ∷ 0 ∷ []), false)  -- upper case at both ends,
-    ∷ (one 7 60 100 (1 ∷ 90 ∷ 0 ∷ []), false)
-    ∷ (one 7 60 100 (1 ∷ 64 ∷ 0 ∷ []), true)  -- beside it,
-    ∷ (one 7 60 100 (1 ∷ 91 ∷ 0 ∷ []), true)
-    ∷ (one 7 60 100 (63 ∷ (replicate 63 97 ++ (0 ∷ []))), true)  -- labels of 63 and 64 bytes,
-    ∷ (one 7 60 100 (64 ∷ (replicate 64 97 ++ (0 ∷ []))), false)
-    ∷ (one 7 60 100 (1 ∷ 97 ∷ 0 ∷ 0 ∷ []), false)  -- bytes behind the end
-    ∷ (two 2 8, true)  -- entries differ in number and in question
-    ∷ (two 2 7, false)
-    ∷ (two 1 8, false)
+    ∷ (two false 2 8, true)  -- entries differ in number and in question, whatever their states
+    ∷ (two false 2 7, false)
+    ∷ (two false 1 8, false)
+    ∷ (two true 2 8, true)
+    ∷ (two true 2 7, false)
+    ∷ (two true 1 8, false)
     ∷ (soundTable (table 5 [] four), true)  -- limits: 4 unlisted, the line's if listed
     ∷ (five [], false)
     ∷ (five (line 9 0 5 ∷ []), true)
@@ -100,5 +133,8 @@ abbrev pub AgreeAll : List (Bool × Bool) → Type 0
 AgreeAll [] = Unit {0}
 AgreeAll (r ∷ rs) = (r .0 ≡ r .1) × AgreeAll rs
 
-abbrev pub SoundSamples : Type 0
-SoundSamples = AgreeAll soundSamples
+-- each entry is judged pending and established
+pub record SoundSamples : Type 0 where
+  pub tables : AgreeAll tableSamples
+  pub pending : AgreeAll (map (one false) entrySamples)
+  pub established : AgreeAll (map (one true) entrySamples)

@@ -11,7 +11,8 @@ use Rattle.model.specs.Table.{Line}
 use Rattle.model.specs.Rules.{Holding}
 use Rattle.model.specs.Serve.{Sender, Outcome}
 use Rattle.model.specs.Reply.{replyLength}
-use Rattle.model.specs.Calls.{MakeCall, TickCall, ServeCall, refusal, rosterLines, tableLength, goodRoster}
+use Rattle.model.specs.Calls.{MakeCall, TickCall, ServeCall, refusal, tableLength, goodRoster}
+use Rattle.claims.specs.Roster.{linesGiven}
 
 -- the tally (document 01's term): a clock, n, the roster and a list of holdings
 pub record Tally : Type 0 where
@@ -175,8 +176,8 @@ newHolding s r q o y =
       name = q .name;
     }
 
-abbrev pub established : Holding → Holding
-established h =
+abbrev pub establishedHolding : Holding → Holding
+establishedHolding h =
     record {
       established = true;
       address = h .address;
@@ -189,8 +190,8 @@ established h =
       name = h .name;
     }
 
-abbrev pub renewed : ℕ → Holding → Holding
-renewed lease h =
+abbrev pub renewedHolding : ℕ → Holding → Holding
+renewedHolding lease h =
     record {
       established = h .established;
       address = h .address;
@@ -204,8 +205,8 @@ renewed lease h =
     }
 
 -- the holdings after an option, and what the reply must say of it, given the holdings that it finds
-abbrev pub outcome : LlqOption → ℕ → ℕ → ℕ → Outcome
-outcome o error number lease = record { opcode = o .opcode; error = error; number = number; lease = lease }
+abbrev pub outcomeTo : LlqOption → ℕ → ℕ → ℕ → Outcome
+outcomeTo o error number lease = record { opcode = o .opcode; error = error; number = number; lease = lease }
 
 -- a setup that finds a holding changes nothing; otherwise the setup rule, read on the tally, says full or adds a pending holding
 abbrev pub setupTally : Sender → ℕ → Question → LlqOption → Tally → List Holding → Tally
@@ -213,31 +214,31 @@ setupTally s r q o y [] = cond (isFull y (s .address)) y (withHoldings y (y .hol
 setupTally s r q o y (h ∷ hs) = y
 
 abbrev pub setupOutcome : Sender → ℕ → Question → LlqOption → Tally → List Holding → Outcome
-setupOutcome s r q o y [] = cond (isFull y (s .address)) (outcome o 1 0 60) (outcome o 0 (numberFor (y .holdings) r) (leaseFor (o .lease)))
-setupOutcome s r q o y (h ∷ hs) = outcome o 0 (h .number) (h .lease)
+setupOutcome s r q o y [] = cond (isFull y (s .address)) (outcomeTo o 1 0 60) (outcomeTo o 0 (numberFor (y .holdings) r) (leaseFor (o .lease)))
+setupOutcome s r q o y (h ∷ hs) = outcomeTo o 0 (h .number) (h .lease)
 
 -- a response right by its rule establishes its holding
 abbrev pub responseTally : Sender → Question → LlqOption → Tally → Tally
-responseTally s q o y = withHoldings y (map (λ h. cond (isAnswered s q o h) (established h) h) (y .holdings))
+responseTally s q o y = withHoldings y (map (λ h. cond (isAnswered s q o h) (establishedHolding h) h) (y .holdings))
 
 abbrev pub responseOutcome : LlqOption → List Holding → Outcome
-responseOutcome o [] = outcome o 4 0 0
-responseOutcome o (h ∷ hs) = outcome o 0 (h .number) (h .lease - h .age)
+responseOutcome o [] = outcomeTo o 4 0 0
+responseOutcome o (h ∷ hs) = outcomeTo o 0 (h .number) (h .lease - h .age)
 
 -- a refresh right by its rule strikes its holding at lease 0; another lease is granted with age 0
 abbrev pub refreshTally : Sender → Question → LlqOption → Tally → Tally
 refreshTally s q o y =
     cond (eqb (o .lease) 0)
     (withHoldings y (keep (λ h. not (isRefreshed s q o h)) (y .holdings)))
-    (withHoldings y (map (λ h. cond (isRefreshed s q o h) (renewed (leaseFor (o .lease)) h) h) (y .holdings)))
+    (withHoldings y (map (λ h. cond (isRefreshed s q o h) (renewedHolding (leaseFor (o .lease)) h) h) (y .holdings)))
 
 abbrev pub refreshOutcome : LlqOption → List Holding → Outcome
-refreshOutcome o [] = outcome o 4 (o .number) 0
-refreshOutcome o (h ∷ hs) = outcome o 0 (h .number) (cond (eqb (o .lease) 0) 0 (leaseFor (o .lease)))
+refreshOutcome o [] = outcomeTo o 4 (o .number) 0
+refreshOutcome o (h ∷ hs) = outcomeTo o 0 (h .number) (cond (eqb (o .lease) 0) 0 (leaseFor (o .lease)))
 
 -- version not 1: error 5; else error 3; number 0, or with opcode 2 the number sent
 abbrev pub malformedOutcome : LlqOption → Outcome
-malformedOutcome o = outcome o (cond (eqb (o .version) 1) 3 5) (cond (eqb (o .opcode) 2) (o .number) 0) 0
+malformedOutcome o = outcomeTo o (cond (eqb (o .version) 1) 3 5) (cond (eqb (o .opcode) 2) (o .number) 0) 0
 
 unfoldable pub optionTally : Sender → ℕ → Question → LlqOption → Tally → Tally
 optionTally s r q o y =
@@ -261,7 +262,8 @@ tallyBefore c y (suc i) = optionTally (c .sender) (c .random) (question (c .data
 abbrev pub tallyOutcome : ServeCall → Tally → ℕ → Outcome
 tallyOutcome c y i = optionOutcome (c .sender) (c .random) (question (c .datagram) i) (llqOption (c .datagram) i) (tallyBefore c y i)
 
--- the number that a call's arguments and the table's length call for, any but "table unsound"
+-- the number that a call's arguments and the table's length call for, any but "table unsound". All conditions but the reading's are the
+-- model's tests, the roster's `goodRoster` among them: claim 1 spells out each (`Refusals`, for the roster `RosterFault`)
 unfoldable pub judged : ℕ → Call → ℕ
 judged size (making c) =
     refusal ((1, not (tableLength size)) ∷ (2, leb 1024 (c .week) || leb 604800 (c .second)) ∷ (9, not (goodRoster ((size - 313) / 320) (c .roster))) ∷ [])
@@ -278,10 +280,10 @@ judged size (serving c) =
     ∷ (8, ltb (c .room) (replyLength d) || ltb 1472 (replyLength d))
     ∷ [])
 
--- an answered making begins it anew: the reading's place, count 0, n by the buffer's length, the roster given, no holdings
+-- an answered making begins it anew: the reading's place, count 0, n by the buffer's length, the roster given, in its order, no holdings
 abbrev pub beginTally : ℕ → MakeCall → Tally
 beginTally size c =
-    record { place = c .week * 604800 + c .second; running = 0; n = (size - 313) / 320; roster = rosterLines (c .roster); holdings = [] }
+    record { place = c .week * 604800 + c .second; running = 0; n = (size - 313) / 320; roster = linesGiven (c .roster); holdings = [] }
 
 abbrev pub doneTally : ℕ → Tally → Call → Tally
 doneTally size y (making c) = beginTally size c

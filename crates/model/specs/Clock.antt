@@ -10,7 +10,7 @@ pub record Clock : Type 0 where
   pub place : ℕ
   pub running : ℕ
 
--- a reading is a week 0 to 1,023 and a second 0 to 604,799
+-- a reading is a week 0 to 1,023 (IS-GPS-200, ten bits) and a second 0 to 604,799
 abbrev pub validReading : ℕ → ℕ → Bool
 validReading week second = ltb week 1024 && ltb second 604800
 
@@ -18,7 +18,7 @@ validReading week second = ltb week 1024 && ltb second 604800
 abbrev pub placeOf : ℕ → ℕ → ℕ
 placeOf week second = week * 604800 + second
 
--- 1,024 weeks
+-- 1,024 weeks: the ten-bit week is back at 0
 abbrev pub cycle : ℕ
 cycle = 619315200
 
@@ -44,6 +44,6 @@ advance c to = moved c to (step (c .place) to)
 abbrev pub ageAt : ℕ → ℕ → ℕ
 ageAt running stamp = (running + 2 ^ 32 - stamp) % 2 ^ 32
 
--- an entry has run out when its age is at least its lease
+-- an entry has run out when its age is at least its lease (LLQ-LEASE, RFC 8764 section 5.2.2)
 abbrev pub runOut : ℕ → ℕ → Bool
 runOut age lease = leb lease age

@@ -1,4 +1,4 @@
--- Numbers in a list of bytes, big endian, and a record of fields one after the other. Assumes nothing.
+-- Numbers in a list of bytes, big endian (RFC 1035 section 2.3.2, RFC 8764 section 3.2), and a record of fields one after the other. Assumes nothing.
 use Prim.Native.Nat.{ℕ, zero, suc, _+_, _*_, _/_, _%_, _<_}
 use mathlib.Core.List.{List, [], _∷_, _++_}
 use lib.ListN.{take, drop, getD}

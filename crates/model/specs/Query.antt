@@ -13,7 +13,7 @@ use Rattle.model.specs.Names.{fold, nameSize}
 abbrev pub wrongSize : List ℕ → Bool
 wrongSize d = ltb (length d) 12 || ltb 1472 (length d)
 
--- THE HEADER, RFC 1035: the message number, 16 bits of flags, four counts
+-- THE HEADER, RFC 1035 section 4.1.1: the message number (ID), 16 bits of flags, four counts
 abbrev pub messageNumber : List ℕ → ℕ
 messageNumber d = bigEndian d 0 2
 
@@ -48,7 +48,7 @@ goodHeader d =
     eqb (flagQR d) 0 && eqb (flagOpcode d) 0 && eqb (flagTC d) 0 && (leb 1 (qdcount d) && leb (qdcount d) 8) && eqb (ancount d) 0 && eqb (nscount d) 0
     && eqb (arcount d) 1
 
--- QUESTIONS: a name, a type and a class
+-- QUESTIONS, RFC 1035 section 4.1.2: a name, a type and a class
 pub record Question : Type 0 where
   -- wire bytes, folded
   pub name : List ℕ
@@ -59,7 +59,7 @@ pub record Question : Type 0 where
 unfoldable pub nameAt : List ℕ → ℕ → ℕ
 nameAt d at = nameSize 0 0 (drop at d)
 
--- a question stands at a place: a name of at most 255 bytes, and four bytes more
+-- a question stands at a place: a name of at most 255 bytes (RFC 1035 section 2.3.4), and four bytes more
 unfoldable pub goodQuestion : List ℕ → ℕ → Bool
 goodQuestion d at = leb 1 (nameAt d at) && leb (nameAt d at) 255 && leb (at + nameAt d at + 4) (length d)
 
@@ -86,8 +86,9 @@ goodQuestions d m = every (λ i. goodQuestion d (questionStart d i)) (upTo m (λ
 abbrev pub questionsEnd : List ℕ → ℕ
 questionsEnd d = questionStart d (qdcount d)
 
--- THE OPT RECORD, RFC 6891: name 1, type 2, class 2, extended RCODE 1, version 1, flags 2, data length 2, data
--- An option in its data: code 2, length 2, and as many bytes
+-- THE OPT RECORD, RFC 6891 section 6.1.2: name 1, type 2, class 2, TTL 4, data length 2, data
+-- Its TTL, section 6.1.3: extended RCODE 1, version 1, flags 2
+-- An option in its data, section 6.1.2: code 2, length 2, and as many bytes
 pub record EdnsOption : Type 0 where
   pub code : ℕ
   -- where its bytes start, and how many there are
@@ -124,11 +125,11 @@ goodOpt d at =
     leb (optData at) (length d) && eqb (getD d at 0) 0 && eqb (bigEndian d (at + 1) 2) 41 && eqb (getD d (at + 6) 0) 0
     && eqb (optData at + bigEndian d (at + 9) 2) (length d) && optionsFill (suc (length d)) d (optData at)
 
--- LLQ OPTIONS: those of code 1
+-- LLQ OPTIONS: those of code 1, RFC 8764 section 3.1
 unfoldable pub llqOptions : List ℕ → List EdnsOption
 llqOptions d = keep (λ o. eqb (o .code) 1) (optionsFrom (suc (length d)) d (optData (questionsEnd d)))
 
--- an LLQ option's 18 bytes: version 2, opcode 2, error 2, LLQ number 8, lease 4
+-- an LLQ option's 18 bytes, RFC 8764 section 3.2: version 2, opcode 2, error 2, LLQ number (LLQ-ID) 8, lease 4
 pub record LlqOption : Type 0 where
   pub version : ℕ
   pub opcode : ℕ
@@ -150,6 +151,6 @@ llqAt d at =
 abbrev pub llqOption : List ℕ → ℕ → LlqOption
 llqOption d i = llqAt d (getD (llqOptions d) i (record { code = 0; start = 0; size = 0 }) .start)
 
--- the count and length test: as many as the questions, each of 18 bytes
+-- the count and length test: as many as the questions (RFC 8764 sections 5.2.1 and 7.1), each of 18 bytes (section 3.2)
 unfoldable pub matched : List ℕ → Bool
 matched d = eqb (length (llqOptions d)) (qdcount d) && every (λ o. eqb (o .size) 18) (llqOptions d)

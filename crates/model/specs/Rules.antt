@@ -84,21 +84,22 @@ unfoldable pub shares : List Line → ℕ
 shares [] = 0
 shares (l ∷ ls) = l .share + shares ls
 
--- SERV-FULL, with n slots and the address a holding h, share s, limit m: h ≥ m, or h ≥ s and the free slots are no more than the reserve
+-- SERV-FULL (RFC 8764 sections 5.2.2 and 8.1), with n slots and the address a holding h, share s, limit m: h ≥ m, or h ≥ s and the free
+-- slots are no more than the reserve
 unfoldable pub full : ℕ → List Line → Counts → ℕ → Bool
 full n ls c a = leb (limitOf ls a) (c (heldBy a)) || (leb (shareOf ls a) (c (heldBy a)) && leb (n - c any) (reserve ls c))
 
--- the granted lease: the asked one, raised to 60 or lowered to 7,200
+-- the granted lease, which RFC 8764 section 5.2.2 leaves to the server: the asked one, raised to 60 or lowered to 7,200
 abbrev pub grantedLease : ℕ → ℕ
 grantedLease asked = max 60 (min asked 7200)
 
--- the granted number: the first of r, r + 1, r + 2 and so on, modulo 2^64, that is neither 0 nor in the table; k tries are enough if k is
--- 2 more than there are entries
+-- the granted number (LLQ-ID, RFC 8764 section 5.2.2): the first of r, r + 1, r + 2 and so on, modulo 2^64, that is neither 0 nor in the
+-- table; k tries are enough if k is 2 more than there are entries
 unfoldable pub freshNumber : ℕ → Counts → ℕ → ℕ
 freshNumber zero c r = 0
 freshNumber (suc k) c r = cond (eqb (r % 2 ^ 64) 0 || leb 1 (c (numbered (r % 2 ^ 64)))) (freshNumber k c (suc r)) (r % 2 ^ 64)
 
--- The same rule in plain words, which the search meets (model/proofs, FreshLaws; claims, Numbers).
+-- The same rule in plain words, which the search meets (model/proofs, FreshLaws; claims, GrantedNumbers).
 
 -- 0, or in use
 abbrev pub Taken : Counts → ℕ → Type 0

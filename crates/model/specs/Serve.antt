@@ -26,7 +26,7 @@ withSlot t i s = withSlots t (set (t .slots) i s)
 abbrev pub ended : Slot
 ended = free
 
--- the slot's entry has run out
+-- the slot's entry has run out; a pending one waits out its lease too, RFC 8764 section 5.1
 unfoldable pub slotRunOut : ℕ → Slot → Bool
 slotRunOut running free = false
 slotRunOut running (held e) = runOut (ageAt running (e .stamp)) (e .lease)
@@ -73,7 +73,7 @@ pub record Outcome : Type 0 where
   pub number : ℕ
   pub lease : ℕ
 
--- RFC 8764's error numbers that the box gives
+-- RFC 8764's error numbers (section 3.1) that the box gives
 abbrev pub servFull : ℕ
 servFull = 1
 
@@ -93,7 +93,8 @@ pub data Kind : Type 0 where
   response : Kind
   refresh : Kind
 
--- version not 1; else opcode not 1 or 2, or error not 0; else opcode 2; else by the number: 0 or not
+-- version not 1; else opcode not 1 (LLQ-SETUP) or 2 (LLQ-REFRESH, RFC 8764 section 3.1), or error not 0; else opcode 2; else by the number:
+-- 0, a setup (section 5.2.1), or not, a response (section 5.2.3)
 unfoldable pub kindOfOption : LlqOption → Kind
 kindOfOption o =
     cond (not (eqb (o .version) 1)) badVersion
@@ -106,12 +107,12 @@ pub record Served : Type 0 where
   pub table : Table
   pub outcome : Outcome
 
--- a malformed option: the table stays; number 0, or with opcode 2 the number sent; lease 0
+-- a malformed option (BAD-VERS, FORMAT-ERR, RFC 8764 section 5.2.2): the table stays; number 0, or with opcode 2 the number sent; lease 0
 abbrev pub malformed : LlqOption → ℕ → Table → Served
 malformed o error t =
     record { table = t; outcome = record { opcode = o .opcode; error = error; number = cond (eqb (o .opcode) 2) (o .number) 0; lease = 0 } }
 
--- SETUP
+-- SETUP, RFC 8764 section 5.2.1
 
 -- the entry that a setup adds: pending, with the setup rule's lease and number, its stamp the running count
 abbrev pub newEntry : Sender → ℕ → Question → LlqOption → Table → Entry
@@ -128,11 +129,11 @@ newEntry s r q o t =
       name = q .name;
     }
 
--- a challenge: an entry's number and granted lease
+-- a challenge, RFC 8764 section 5.2.2: an entry's number and granted lease
 abbrev pub challenge : LlqOption → Entry → Outcome
 challenge o e = record { opcode = o .opcode; error = 0; number = e .number; lease = e .lease }
 
--- error 1, number 0, lease 60 (retry after, house)
+-- error 1, number 0, lease 60 (retry after, RFC 8764 section 5.2.2; 60 is house)
 abbrev pub retryLater : LlqOption → Outcome
 retryLater o = record { opcode = o .opcode; error = servFull; number = 0; lease = 60 }
 
@@ -144,7 +145,8 @@ granted s r q o t =
       outcome = challenge o (newEntry s r q o t);
     }
 
--- of the slot whose entry is of this address, port and question: it stays and its challenge is repeated; without one, full or granted
+-- of the slot whose entry is of this address, port and question: it stays and its challenge is repeated (RFC 8764 section 5.1); without one,
+-- full or granted
 unfoldable pub onSetup : Sender → ℕ → Question → LlqOption → Table → Slot → Served
 onSetup s r q o t (held e) = record { table = t; outcome = challenge o e }
 onSetup s r q o t free =
@@ -155,13 +157,13 @@ onSetup s r q o t free =
 unfoldable pub serveSetup : Sender → ℕ → Question → LlqOption → Table → Served
 serveSetup s r q o t = onSetup s r q o t (slotOf t (findEntry (asks (s .address) (s .port) q) t))
 
--- RESPONSE
+-- RESPONSE, RFC 8764 section 5.2.3
 
 -- the lease that a response must repeat: the granted one
 abbrev pub rightLease : LlqOption → Holding → Bool
 rightLease o h = eqb (h .lease) (o .lease)
 
--- the entry that a response is right for: this number, address, port and question, and the granted lease
+-- the entry that a response is right for, RFC 8764 section 5.2.4: this number, address, port and question, and the granted lease
 abbrev pub answers : Sender → Question → LlqOption → Holding → Bool
 answers s q o h = numbered (o .number) h && asks (s .address) (s .port) q h && rightLease o h
 
@@ -179,7 +181,7 @@ establish e =
       name = e .name;
     }
 
--- it becomes, or stays, established: error 0, its number, lease less age; otherwise error 4, number 0, lease 0 (house)
+-- it becomes, or stays, established (RFC 8764 section 5.2.4): error 0, its number, lease less age; otherwise error 4, number 0, lease 0 (house)
 unfoldable pub onResponse : LlqOption → Table → ℕ → Slot → Served
 onResponse o t i (held e) =
     record {
@@ -191,7 +193,7 @@ onResponse o t i free = record { table = t; outcome = record { opcode = o .opcod
 unfoldable pub serveResponse : Sender → Question → LlqOption → Table → Served
 serveResponse s q o t = let i = findEntry (answers s q o) t in onResponse o t i (slotOf t i)
 
--- REFRESH
+-- REFRESH, RFC 8764 section 7.1
 
 -- the entry that a refresh is right for: established, with this number, address, port and question
 abbrev pub refreshes : Sender → Question → LlqOption → Holding → Bool
@@ -212,7 +214,8 @@ renew running asked e =
       name = e .name;
     }
 
--- lease 0 frees it, reply lease 0; another lease is granted; the number is repeated; otherwise error 4, the number sent, lease 0
+-- lease 0 frees it (RFC 8764 section 7.1), reply lease 0; another lease is granted; the number is repeated; otherwise error 4, the number
+-- sent, lease 0 (section 7.2)
 unfoldable pub onRefresh : LlqOption → Table → ℕ → Slot → Served
 onRefresh o t i (held e) =
     cond (eqb (o .lease) 0)

@@ -13,7 +13,7 @@ use Rattle.model.specs.Sound.{Sound}
 use Rattle.model.specs.Serve.{Sender, serveOption, withSlot, slotOf, establish}
 use Rattle.model.proofs.ListLaws.{never}
 use Rattle.model.proofs.HoldingLaws.{not-held, held-inj}
-use Rattle.claims.specs.Changes.{RightResponse, RightRefresh, relet, Change, nothing, grant, confirm, renew, end, OptionDone}
+use Rattle.claims.specs.Changes.{RightResponse, RightRefresh, renewedEntry, Change, nothing, grant, confirm, renew, end, OptionDone}
 use Rattle.claims.proofs.Changes.OptionChange.{option-change, response-establishes}
 
 -- ONE SLOT of a table where slot k is written
@@ -28,7 +28,7 @@ module _ (t : Table) (k : ℕ) (z : Slot) where
 pub data EntryAfter (s : Sender) (q : Question) (o : LlqOption) (t u : Table) (j : ℕ) (e : Entry) : Type 0 where
   stays : slotOf u j ≡ held e → EntryAfter s q o t u j e
   confirmed : e .established ≡ false → RightResponse s q o e → slotOf u j ≡ held (establish e) → EntryAfter s q o t u j e
-  renewed : RightRefresh s q o e → o .lease ≢ 0 → slotOf u j ≡ held (relet t o e) → EntryAfter s q o t u j e
+  renewed : RightRefresh s q o e → o .lease ≢ 0 → slotOf u j ≡ held (renewedEntry t o e) → EntryAfter s q o t u j e
   ended : RightRefresh s q o e → o .lease ≡ 0 → slotOf u j ≡ free → EntryAfter s q o t u j e
 
 module _ (s : Sender) (q : Question) (o : LlqOption) (t u : Table) where
@@ -50,7 +50,7 @@ module _ (s : Sender) (q : Question) (o : LlqOption) (t u : Table) where
   entry-after (grant k f i hk low g hu) j e h =
       stays (ap (λ (w : Table). slotOf w j) hu ∙ slot-other t k (held f) j (λ p. not-held e (sym hk ∙ ap (slotOf t) (sym p) ∙ h)) ∙ h)
   entry-after (confirm k f i hk b right hu) j e h = written-after k f (held (establish f)) hk hu (λ w. confirmed b right w) i j e h
-  entry-after (renew k f i hk right n hu) j e h = written-after k f (held (relet t o f)) hk hu (λ w. renewed right n w) i j e h
+  entry-after (renew k f i hk right n hu) j e h = written-after k f (held (renewedEntry t o f)) hk hu (λ w. renewed right n w) i j e h
   entry-after (end k f i hk right n hu) j e h = written-after k f free hk hu (λ w. ended right n w) i j e h
 
   -- what a free slot gets is pending
@@ -78,7 +78,7 @@ module _ (s : Sender) (q : Question) (o : LlqOption) (t u : Table) where
       go (nothing hu) = same-slot hu
       go (grant k f i hk low g hu) = new k f i (g .pending) hu (eqb j k) refl
       go (confirm k f i hk b right hu) = other k f (held (establish f)) hk hu
-      go (renew k f i hk right n hu) = other k f (held (relet t o f)) hk hu
+      go (renew k f i hk right n hu) = other k f (held (renewedEntry t o f)) hk hu
       go (end k f i hk right n hu) = other k f free hk hu
 
   -- established just after: the option was a right response to it

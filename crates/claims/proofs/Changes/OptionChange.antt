@@ -17,7 +17,7 @@ use Rattle.model.specs.Serve.{Sender, Kind, badVersion, badFormat, setup, respo
 use Rattle.model.proofs.ListLaws.{never, index-before}
 use Rattle.model.proofs.HoldingLaws.{held-in, entries-le, count-held, found-passes, found-none, found-at, free-slot, free-in, room-left}
 use Rattle.model.proofs.FreshLaws.{Fresh, fresh-number}
-use Rattle.claims.specs.Changes.{Setup, Response, Refresh, RightResponse, Granted, relet, Change, nothing, grant, confirm, renew, end}
+use Rattle.claims.specs.Changes.{Setup, Response, Refresh, RightResponse, Granted, renewedEntry, Change, nothing, grant, confirm, renew, end}
 use Rattle.claims.proofs.Relation.TallyRules.{lease-for}
 use Rattle.claims.proofs.Changes.OptionTests.{OfKind, of-kind, response-kind, own-asks, answers-right, right-answers, refreshes-right, one-answers}
 
@@ -103,7 +103,7 @@ module _ (s : Sender) (r : ℕ) (q : Question) (o : LlqOption) (t : Table) (x : 
 
   -- REFRESH
 
-  renewed-is : (e : Entry) → renewEntry (t .clock .running) (o .lease) e ≡ relet t o e
+  renewed-is : (e : Entry) → renewEntry (t .clock .running) (o .lease) e ≡ renewedEntry t o e
   renewed-is e =
       ap (λ (v : ℕ). record { established = e .established; address = e .address; port = e .port; number = e .number; lease = v; stamp = t .clock .running; qtype = e .qtype; qclass = e .qclass; name = e .name })
       (sym (lease-for (o .lease)))

@@ -21,6 +21,7 @@ use Rattle.model.proofs.Meaning.{fits-line}
 use Rattle.claims.specs.Tally.{beginTally}
 use Rattle.claims.proofs.Relation.{Related}
 use Rattle.claims.proofs.AcceptedCalls.{MakeAccepted}
+use Rattle.claims.proofs.RosterGiven.{lines-given}
 
 -- NO ENTRIES
 
@@ -97,7 +98,7 @@ fresh-related c size p b =
       place = refl;
       running = refl;
       n = length-replicate n free;
-      roster = refl;
+      roster = lines-given (c .roster);
       entries = λ q. ap (λ (l : List Holding). count l q) (fresh-none c n min max (p .reading) (p .roster));
       sound = fresh-sound c n min max (p .reading) (p .roster);
       fits = fresh-fits c n min max (p .reading) (p .roster) b;

@@ -13,7 +13,7 @@ use Rattle.model.specs.Serve.{Outcome}
 use Rattle.model.specs.Calls.{ServeCall, serveRefusal, tableBefore, serve}
 use Rattle.claims.specs.Tally.{Tally, tallyBefore, tallyOutcome, Full}
 use Rattle.claims.specs.Events.{ServeInRange}
-use Rattle.claims.specs.Demand3.{WithinLimits, errorIn, NewQuestion, OptionTold, ReplyTold}
+use Rattle.claims.specs.Demand3.{WithinLimits, errorIn, NewQuestion, OptionReply, DatagramReply}
 use Rattle.claims.specs.Reply.{optionPlace, OptionSays}
 use Rattle.claims.proofs.Relation.{Related}
 use Rattle.claims.proofs.Relation.TallyRules.{full-exactly}
@@ -40,8 +40,8 @@ module _ (c : ServeCall) (left : List ℕ) (before : Tally) (t : Table) (i : ℕ
       let f = told-full (c .sender) (c .random) (question (c .datagram) i) (llqOption (c .datagram) i) now (sym (says .error) ∙ e) in
       (record { setup = f .setup; unheld = f .unheld }, full-exactly now (c .sender .address) .0 (f .full))
 
-  option-told : WithinLimits now → OptionTold c left i before now
-  option-told limits =
+  option-reply : WithinLimits now → OptionReply c left i before now
+  option-reply limits =
       record {
         fullExactly = (
           is-told,
@@ -57,7 +57,7 @@ module _ (c : ServeCall) (left : List ℕ) (before : Tally) (t : Table) (i : ℕ
 
 -- the reply of an answered datagram
 pub replied : (size : ℕ) (b lent : List ℕ) (y : Tally) (c : ServeCall) → ServeInRange c → Invariant size b y → c .room ≡ length lent → serveRefusal c b ≡ 0
-    → ReplyTold c (serve c b lent .reply) y
+    → DatagramReply c (serve c b lent .reply) y
 replied size b lent y c range x room e =
     let d = c .datagram in
     let p = serve-accepted c b e in
@@ -68,7 +68,7 @@ replied size b lent y c range x room e =
     record {
       options = λ m i l.
           let o = outcome-keeps c (readTable b) y range (p .reading) (p .questions) r i l in
-          option-told c (serve c b lent .reply) y (tableBefore c (readTable b) i) i
+          option-reply c (serve c b lent .reply) y (tableBefore c (readTable b) i) i
           (subst (λ (o : Outcome). OptionSays (serve c b lent .reply) (optionPlace d i) (llqOption d i .opcode) (o .error) (o .number) (o .lease)) o (says .options m i l))
           (related i (omega arith))
           (within-limits (tableBefore c (readTable b) i) (tallyBefore c y i) (related i (omega arith)));

@@ -15,7 +15,7 @@ use Rattle.model.specs.Sound.{validLine}
 use Rattle.model.specs.Serve.{Sender, Outcome}
 use Rattle.model.specs.Calls.{ServeCall}
 use Rattle.model.proofs.ListLaws.{and-left, either}
-use Rattle.claims.specs.Tally.{withHoldings, newHolding, established, renewed, passed, Tally, lineOf, isFull, AtShare, Full, isSetup, isResponse, isRefresh, isOf, isAnswered, isRefreshed, setupTally, setupOutcome, responseOutcome, refreshOutcome, malformedOutcome, outcome, numberFor, leaseFor, moveTally, optionTally, optionOutcome, tallyBefore}
+use Rattle.claims.specs.Tally.{withHoldings, newHolding, establishedHolding, renewedHolding, passed, Tally, lineOf, isFull, AtShare, Full, isSetup, isResponse, isRefresh, isOf, isAnswered, isRefreshed, setupTally, setupOutcome, responseOutcome, refreshOutcome, malformedOutcome, outcomeTo, numberFor, leaseFor, moveTally, optionTally, optionOutcome, tallyBefore}
 
 -- WHAT NO OPTION CHANGES: a number that does not depend on the holdings
 module _ (f : Tally → ℕ) (same : (y : Tally) (hs : List Holding) → f (withHoldings y hs) ≡ f y) (s : Sender) (r : ℕ) (q : Question) (o : LlqOption) (y : Tally) where
@@ -30,10 +30,10 @@ module _ (f : Tally → ℕ) (same : (y : Tally) (hs : List Holding) → f (with
   unfolding optionTally
   option-stays =
       either Stays (isSetup o) (setup-stays (keep (isOf s q) (y .holdings)))
-      (either Stays (isResponse o) (same y (map (λ h. cond (isAnswered s q o h) (established h) h) (y .holdings)))
+      (either Stays (isResponse o) (same y (map (λ h. cond (isAnswered s q o h) (establishedHolding h) h) (y .holdings)))
       (either Stays (isRefresh o)
       (either Stays (eqb (o .lease) 0) (same y (keep (λ h. not (isRefreshed s q o h)) (y .holdings)))
-      (same y (map (λ h. cond (isRefreshed s q o h) (renewed (leaseFor (o .lease)) h) h) (y .holdings))))
+      (same y (map (λ h. cond (isRefreshed s q o h) (renewedHolding (leaseFor (o .lease)) h) h) (y .holdings))))
       refl))
 
 before-stays : (f : Tally → ℕ) → ((y : Tally) (hs : List Holding) → f (withHoldings y hs) ≡ f y) → (c : ServeCall) (y : Tally) (i : ℕ)
@@ -66,7 +66,7 @@ module _ (s : Sender) (r : ℕ) (q : Question) (o : LlqOption) (y : Tally) where
   setup-told i [] k e = go (isFull y (s .address)) refl e
     where
       go : (v : Bool) → isFull y (s .address) ≡ v
-          → cond v (outcome o 1 0 60) (outcome o 0 (numberFor (y .holdings) r) (leaseFor (o .lease))) .error ≡ 1 → FullSetup s q o y
+          → cond v (outcomeTo o 1 0 60) (outcomeTo o 0 (numberFor (y .holdings) r) (leaseFor (o .lease))) .error ≡ 1 → FullSetup s q o y
       go true f e = record { setup = i; unheld = k; full = f }
       go false f e = absurd (omega arith)
   setup-told i (h ∷ hs) k e = absurd (omega arith)

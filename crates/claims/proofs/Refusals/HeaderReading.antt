@@ -85,7 +85,7 @@ module _ (d : List ℕ) where
         (not-both (a && b && c) (e1 && e2)
         (not-both (a && b) c
         (not-both a b
-        (λ x. HeaderFault.isResponse (bit-high (eqb-false (flagQR d) 0 x)))
+        (λ x. HeaderFault.notQuery (bit-high (eqb-false (flagQR d) 0 x)))
         (λ t x. HeaderFault.otherOpcode (eqb-false (flagOpcode d) 0 x)))
         (λ t x. HeaderFault.truncated (eqb-false (flagTC d) 0 x)))
         (λ t.
@@ -97,7 +97,7 @@ module _ (d : List ℕ) where
         (λ t x. HeaderFault.notOneAdditional (rw (big-two d 10) at (eqb-false (arcount d) 1 x)))
 
     faultless : HeaderFacts d → HeaderFault d → ⊥
-    faultless g (HeaderFault.isResponse l) = high-bit l (g .query)
+    faultless g (HeaderFault.notQuery l) = high-bit l (g .query)
     faultless g (HeaderFault.otherOpcode n) = n (g .opcode)
     faultless g (HeaderFault.truncated n) = n (g .whole)
     faultless g (HeaderFault.noQuestion l) = omega (arith, g .some, big-two d 4)

@@ -12,7 +12,7 @@ use Rattle.model.specs.Lists.{keep}
 use Rattle.model.specs.Numbers.{bigEndian}
 use Rattle.model.specs.Query.{EdnsOption, goodOption, optionAt, optionEnd, optionsFill, optionsFrom, goodOpt, optData, llqOptions, questionsEnd}
 use Rattle.model.proofs.ListLaws.{test, never, and-left, and-right, or-left, or-right, not-both, one-of}
-use Rattle.claims.specs.Refusals.{two, OptionStarts, OptFault, NoLlqOption}
+use Rattle.claims.specs.Refusals.{twoBytes, OptionStarts, OptFault, NoLlqOption}
 use Rattle.claims.proofs.Refusals.QuestionReading.{big-two}
 
 -- an LLQ option
@@ -29,24 +29,24 @@ pick-length false o l = refl
 
 module _ (d : List ℕ) where
   -- where an option ends, by the bytes
-  pub end-of : (q : ℕ) → optionEnd d q ≡ q + 4 + two d (q + 2)
+  pub end-of : (q : ℕ) → optionEnd d q ≡ q + 4 + twoBytes d (q + 2)
   end-of q = ap (λ (x : ℕ). q + 4 + x) (big-two d (q + 2))
 
-  fits : (q : ℕ) → goodOption d q ≡ true → q + 4 + two d (q + 2) ≤ length d
+  fits : (q : ℕ) → goodOption d q ≡ true → q + 4 + twoBytes d (q + 2) ≤ length d
   unfolding goodOption
   fits q h = rw (end-of q) at (leb-true (optionEnd d q) (length d) h)
 
-  fits-not : (q : ℕ) → goodOption d q ≡ false → length d < q + 4 + two d (q + 2)
+  fits-not : (q : ℕ) → goodOption d q ≡ false → length d < q + 4 + twoBytes d (q + 2)
   unfolding goodOption
   fits-not q h = rw (end-of q) at (leb-false (optionEnd d q) (length d) h)
 
   -- the count, past an option
   more-llqs : (k q : ℕ) → goodOption d q ≡ true
-      → llqs (suc k) d q ≡ cond (eqb (two d q) 1) (suc (llqs k d (optionEnd d q))) (llqs k d (optionEnd d q))
+      → llqs (suc k) d q ≡ cond (eqb (twoBytes d q) 1) (suc (llqs k d (optionEnd d q))) (llqs k d (optionEnd d q))
   unfolding optionsFrom optionAt keep
   more-llqs k q h =
-      let o : EdnsOption = record { code = two d q; start = q + 4; size = bigEndian d (q + 2) 2 } in
-      rw (h, big-two d q) (pick-length (eqb (two d q) 1) o (keep llq (optionsFrom k d (optionEnd d q))))
+      let o : EdnsOption = record { code = twoBytes d q; start = q + 4; size = bigEndian d (q + 2) 2 } in
+      rw (h, big-two d q) (pick-length (eqb (twoBytes d q) 1) o (keep llq (optionsFrom k d (optionEnd d q))))
 
   no-llqs : (k q : ℕ) → goodOption d q ≡ false → llqs (suc k) d q ≡ 0
   unfolding optionsFrom keep
@@ -68,7 +68,7 @@ module _ (d : List ℕ) where
     pub at : ℕ
     pub starts : OptionStarts d p at
     pub inside : at < length d
-    pub over : length d < at + 4 + two d (at + 2)
+    pub over : length d < at + 4 + twoBytes d (at + 2)
 
   module _ (p : ℕ) where
     misfit-from : (k q : ℕ) → q ≤ length d → length d < q + k → OptionStarts d p q → optionsFill k d q ≡ false → Misfit p
@@ -102,22 +102,22 @@ module _ (d : List ℕ) where
         let z : optionEnd d q ≡ r = end-of q ∙ sym e in
         let a = more-llqs (o .0) q (o .2) in
         let b : llqs (suc (o .0)) d q ≤ llqs k d p = rw (o .1) at (m .fewer) in
-        let c = cond-le (eqb (two d q) 1) (llqs (o .0) d (optionEnd d q)) in
+        let c = cond-le (eqb (twoBytes d q) 1) (llqs (o .0) d (optionEnd d q)) in
         let g : llqs (o .0) d (optionEnd d q) ≤ llqs k d p = omega (arith, a, b, c) in
         record { fuel = o .0; fills = rw z at (o .3); fewer = rw z at g }
 
     -- an LLQ option that stands there is counted
-    counted : (k : ℕ) → optionsFill k d p ≡ true → (q : ℕ) → OptionStarts d p q → q < length d → two d q ≡ 1 → 1 ≤ llqs k d p
+    counted : (k : ℕ) → optionsFill k d p ≡ true → (q : ℕ) → OptionStarts d p q → q < length d → twoBytes d q ≡ 1 → 1 ≤ llqs k d p
     counted k h q s l e =
         let m = reached k h q s in
         let o = filled (m .fuel) q l (m .fills) in
         let a : llqs (suc (o .0)) d q ≡ suc (llqs (o .0) d (optionEnd d q)) =
-        more-llqs (o .0) q (o .2) ∙ ap (λ (v : Bool). cond v (suc (llqs (o .0) d (optionEnd d q))) (llqs (o .0) d (optionEnd d q))) (eq-eqb (two d q) 1 e) in
+        more-llqs (o .0) q (o .2) ∙ ap (λ (v : Bool). cond v (suc (llqs (o .0) d (optionEnd d q))) (llqs (o .0) d (optionEnd d q))) (eq-eqb (twoBytes d q) 1 e) in
         let b : llqs (suc (o .0)) d q ≤ llqs k d p = rw (o .1) at (m .fewer) in
         omega (arith, a, b)
 
     -- where no option is one, none is counted
-    uncounted : ((q : ℕ) → OptionStarts d p q → q < length d → two d q ≢ 1) → (k q : ℕ) → OptionStarts d p q → llqs k d q ≡ 0
+    uncounted : ((q : ℕ) → OptionStarts d p q → q < length d → twoBytes d q ≢ 1) → (k q : ℕ) → OptionStarts d p q → llqs k d q ≡ 0
     unfolding optionsFrom keep
     uncounted none zero q s = refl
     uncounted none (suc k) q s =
@@ -125,9 +125,9 @@ module _ (d : List ℕ) where
         (λ (h : goodOption d q ≡ true).
         let l = fits q h in
         let e = end-of q in
-        let n : two d q ≢ 1 = none q s (omega arith) in
+        let n : twoBytes d q ≢ 1 = none q s (omega arith) in
         more-llqs k q h
-        ∙ ap (λ (v : Bool). cond v (suc (llqs k d (optionEnd d q))) (llqs k d (optionEnd d q))) (ne-eqb (two d q) 1 n)
+        ∙ ap (λ (v : Bool). cond v (suc (llqs k d (optionEnd d q))) (llqs k d (optionEnd d q))) (ne-eqb (twoBytes d q) 1 n)
         ∙ uncounted none k (optionEnd d q) (OptionStarts.next q (optionEnd d q) s e (omega arith)))
         (λ (h : goodOption d q ≡ false). no-llqs k q h)
         (test (goodOption d q))
@@ -163,9 +163,9 @@ module _ (d : List ℕ) where
     record GoodOpt : Type 0 where
       room : at + 11 ≤ length d
       root : getD d at 0 ≡ 0
-      opt : two d (at + 1) ≡ 41
+      opt : twoBytes d (at + 1) ≡ 41
       version : getD d (at + 6) 0 ≡ 0
-      toEnd : at + 11 + two d (at + 9) ≡ length d
+      toEnd : at + 11 + twoBytes d (at + 9) ≡ length d
       fill : optionsFill (suc (length d)) d (at + 11) ≡ true
 
     tests : goodOpt d at ≡ true → GoodOpt

@@ -13,12 +13,12 @@ use Rattle.model.specs.Query.{nameAt, goodQuestion, questionStart, questionEnd,
 use Rattle.model.proofs.ListLaws.{not-both}
 use Rattle.model.proofs.NameLaws.{question-within}
 use Rattle.model.proofs.QueryLaws.{good-at}
-use Rattle.claims.specs.Refusals.{two, NameEnds, Starts, QuestionFault}
+use Rattle.claims.specs.Refusals.{twoBytes, NameEnds, Starts, QuestionFault}
 use Rattle.claims.proofs.Refusals.Ladders.{first-miss}
 use Rattle.claims.proofs.Refusals.NameReading.{NameScan, name-scan, label-size, end-size, stop-size, long-size}
 
 -- a number of two bytes
-pub big-two : (d : List ℕ) (at : ℕ) → bigEndian d at 2 ≡ two d at
+pub big-two : (d : List ℕ) (at : ℕ) → bigEndian d at 2 ≡ twoBytes d at
 unfolding bigEndian
 big-two d at = rw (zero-mul 256, zero-add (getD d (at + 0) 0), add-zero at)
 
@@ -53,7 +53,7 @@ module _ (d : List ℕ) where
   -- FAULTS
 
   -- a question that is not good has a fault
-  fault-of : (i p : ℕ) → i < two d 4 → Starts d i p → goodQuestion d p ≡ false → QuestionFault d
+  fault-of : (i p : ℕ) → i < twoBytes d 4 → Starts d i p → goodQuestion d p ≡ false → QuestionFault d
   unfolding goodQuestion
   fault-of i p l s bad = go (name-scan d p)
     where
@@ -69,8 +69,8 @@ module _ (d : List ℕ) where
           (λ t x. QuestionFault.typeRunsOut i p e l s n (omega (arith, leb-false (p + nameAt d p + 4) (length d) x)))
           bad
 
-  module _ (good : (i : ℕ) → i < two d 4 → goodQuestion d (questionStart d i) ≡ true) where
-    within : (i p : ℕ) → i < two d 4 → Starts d i p → (1 ≤ nameAt d p) × (nameAt d p ≤ 255) × (p + nameAt d p + 4 ≤ length d)
+  module _ (good : (i : ℕ) → i < twoBytes d 4 → goodQuestion d (questionStart d i) ≡ true) where
+    within : (i p : ℕ) → i < twoBytes d 4 → Starts d i p → (1 ≤ nameAt d p) × (nameAt d p ≤ 255) × (p + nameAt d p + 4 ≤ length d)
     within i p l s = question-within d p (rw (start-is i p s) (good i l))
 
     faultless : QuestionFault d → ⊥
@@ -87,15 +87,15 @@ module _ (d : List ℕ) where
       let m = first-miss (λ i. goodQuestion d (questionStart d i)) (qdcount d) h in
       fault-of (m .index) (questionStart d (m .index)) (rw (← (big-two d 4)) (m .within)) (starts-behind (m .index) (m .before)) (m .misses)
 
-  all-good : goodQuestions d (qdcount d) ≡ true → (i : ℕ) → i < two d 4 → goodQuestion d (questionStart d i) ≡ true
+  all-good : goodQuestions d (qdcount d) ≡ true → (i : ℕ) → i < twoBytes d 4 → goodQuestion d (questionStart d i) ≡ true
   all-good h i l = good-at d (qdcount d) i h (rw (big-two d 4) l)
 
   pub good-questions : goodQuestions d (qdcount d) ≡ true → QuestionFault d → ⊥
   good-questions h f = faultless (all-good h) f
 
   -- the place behind the questions
-  pub starts-end : goodQuestions d (qdcount d) ≡ true → Starts d (two d 4) (questionsEnd d)
-  starts-end h = rw (big-two d 4) (starts-behind (two d 4) (all-good h))
+  pub starts-end : goodQuestions d (qdcount d) ≡ true → Starts d (twoBytes d 4) (questionsEnd d)
+  starts-end h = rw (big-two d 4) (starts-behind (twoBytes d 4) (all-good h))
 
-  pub end-is : (at : ℕ) → Starts d (two d 4) at → at ≡ questionsEnd d
-  end-is at s = rw (big-two d 4) (start-is (two d 4) at s)
+  pub end-is : (at : ℕ) → Starts d (twoBytes d 4) at → at ≡ questionsEnd d
+  end-is at s = rw (big-two d 4) (start-is (twoBytes d 4) at s)

@@ -19,7 +19,8 @@ use Rattle.model.proofs.ListLaws.{and-left, and-right, not-both, every-upTo, ev
 use Rattle.model.proofs.RoundTrip.{noLine}
 use Rattle.model.proofs.Facts.{roster-facts}
 use Rattle.model.proofs.CallLaws.{GivenRoster, given-roster}
-use Rattle.claims.specs.Refusals.{shareAt, limitAt, shareTotal, RosterFault}
+use Rattle.claims.specs.Roster.{shareAt, limitAt}
+use Rattle.claims.specs.Refusals.{shareTotal, RosterFault}
 use Rattle.claims.proofs.Refusals.Ladders.{Two, first-miss, some-two}
 
 -- THE SHARES

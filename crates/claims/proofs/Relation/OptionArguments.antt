@@ -6,7 +6,7 @@ use Rattle.model.specs.Names.{lowerName}
 use Rattle.model.specs.Query.{Question, LlqOption}
 use Rattle.model.specs.Serve.{Sender, Served, Outcome}
 use Rattle.model.proofs.StepLaws.{FitsSender, FitsQuestion}
-use Rattle.claims.specs.Tally.{Tally, outcome}
+use Rattle.claims.specs.Tally.{Tally, outcomeTo}
 use Rattle.claims.proofs.Relation.{Related}
 
 pub record Arguments (s : Sender) (r : ℕ) (q : Question) : Type 0 where
@@ -21,5 +21,5 @@ abbrev pub Keeps : Served → Tally → Outcome → Type 0
 Keeps v w z = Related (v .table) w × (v .outcome ≡ z)
 
 -- two outcomes that agree in number and lease
-pub same-outcome : (o : LlqOption) (error : ℕ) {a b c d : ℕ} → a ≡ b → c ≡ d → outcome o error a c ≡ outcome o error b d
+pub same-outcome : (o : LlqOption) (error : ℕ) {a b c d : ℕ} → a ≡ b → c ≡ d → outcomeTo o error a c ≡ outcomeTo o error b d
 same-outcome o error u v = cc

@@ -7,7 +7,7 @@ use Rattle.model.specs.Lists.{keep}
 use Rattle.model.specs.Query.{Question, LlqOption}
 use Rattle.model.specs.Table.{Table}
 use Rattle.model.specs.Serve.{Sender, serveKind, serveOption}
-use Rattle.claims.specs.Tally.{Tally, outcome, isSetup, isResponse, isRefresh, isOf, isAnswered, isRefreshed, setupTally, setupOutcome, responseTally, responseOutcome, refreshTally, refreshOutcome, optionTally, optionOutcome}
+use Rattle.claims.specs.Tally.{Tally, outcomeTo, isSetup, isResponse, isRefresh, isOf, isAnswered, isRefreshed, setupTally, setupOutcome, responseTally, responseOutcome, refreshTally, refreshOutcome, optionTally, optionOutcome}
 use Rattle.claims.proofs.Relation.{Related}
 use Rattle.claims.proofs.Relation.TallyRules.{kindBy, kind-is}
 use Rattle.claims.proofs.Relation.SetupKeeps.{setup-keeps}
@@ -23,7 +23,7 @@ module _ (s : Sender) (r : ℕ) (q : Question) (o : LlqOption) (t : Table) (y : 
       (cond u (setupOutcome s r q o y (keep (isOf s q) (y .holdings)))
       (cond p (responseOutcome o (keep (isAnswered s q o) (y .holdings)))
       (cond w (refreshOutcome o (keep (isRefreshed s q o) (y .holdings)))
-      (outcome o (cond v 3 5) (cond (eqb (o .opcode) 2) (o .number) 0) 0))))
+      (outcomeTo o (cond v 3 5) (cond (eqb (o .opcode) 2) (o .number) 0) 0))))
   unfolding serveKind
   by-tests true p w v = setup-keeps s r q o t y a rel
   by-tests false true w v = response-keeps s q o t y rel

@@ -16,7 +16,7 @@ use Rattle.model.specs.Serve.{Sender, refreshes, renew, onRefresh, serveRefresh
 use Rattle.model.proofs.ListLaws.{and-left}
 use Rattle.model.proofs.StepLaws.{granted-lease, fits-renew}
 use Rattle.model.proofs.ClockLaws.{fresh-age}
-use Rattle.claims.specs.Tally.{Tally, withHoldings, outcome, leaseFor, isOf, isRefreshed, renewed, refreshTally, refreshOutcome}
+use Rattle.claims.specs.Tally.{Tally, withHoldings, outcomeTo, leaseFor, isOf, isRefreshed, renewedHolding, refreshTally, refreshOutcome}
 use Rattle.claims.proofs.Relation.{Related}
 use Rattle.claims.proofs.Relation.TallyRules.{is-refreshed, lease-for}
 use Rattle.claims.proofs.Relation.OneMatch.{Missing, Found, find-cases, keep-none}
@@ -45,7 +45,7 @@ module _ (s : Sender) (q : Question) (o : LlqOption) (t : Table) (y : Tally) (r 
   one = one-question t (r .sound) s q m (λ h k. and-left (isOf s q h) _ (and-left _ _ k))
 
   marks : (h : Holding) (b : Bool)
-      → cond b (renewed (leaseFor (o .lease)) h) h
+      → cond b (renewedHolding (leaseFor (o .lease)) h) h
       ≡ record {
         established = h .established;
         address = h .address;
@@ -61,7 +61,7 @@ module _ (s : Sender) (q : Question) (o : LlqOption) (t : Table) (y : Tally) (r 
   marks h false = refl
 
   -- the renewed entry is the renewed holding
-  seen : (e : Entry) → holding (t .clock .running) (renew (t .clock .running) (o .lease) e) ≡ renewed (leaseFor (o .lease)) (holding (t .clock .running) e)
+  seen : (e : Entry) → holding (t .clock .running) (renew (t .clock .running) (o .lease) e) ≡ renewedHolding (leaseFor (o .lease)) (holding (t .clock .running) e)
   seen e = λ i.
       record {
         established = e .established;
@@ -75,10 +75,10 @@ module _ (s : Sender) (q : Question) (o : LlqOption) (t : Table) (y : Tally) (r 
         name = e .name;
       }
 
-  valid-renewed : (h : Holding) → validLease (renewed (leaseFor (o .lease)) h) ≡ true
+  valid-renewed : (h : Holding) → validLease (renewedHolding (leaseFor (o .lease)) h) ≡ true
   valid-renewed h = rw (le-leb 60 (leaseFor (o .lease)) (lease-least (o .lease)), le-leb (leaseFor (o .lease)) 7200 (lease-most (o .lease)))
 
-  live-renewed : (h : Holding) → live (renewed (leaseFor (o .lease)) h) ≡ true
+  live-renewed : (h : Holding) → live (renewedHolding (leaseFor (o .lease)) h) ≡ true
   live-renewed h = lt-ltb 0 (leaseFor (o .lease)) (omega (arith, lease-least (o .lease)))
 
   pub refresh-keeps : Keeps (serveRefresh s q o t) (refreshTally s q o y) (refreshOutcome o (keep m (y .holdings)))
@@ -91,9 +91,9 @@ module _ (s : Sender) (q : Question) (o : LlqOption) (t : Table) (y : Tally) (r 
         where
           go : (b : Bool)
               → Related t (cond b (withHoldings y (keep (λ h. not (m h)) (y .holdings)))
-              (withHoldings y (map (λ h. cond (m h) (renewed (leaseFor (o .lease)) h) h) (y .holdings))))
+              (withHoldings y (map (λ h. cond (m h) (renewedHolding (leaseFor (o .lease)) h) h) (y .holdings))))
           go true = none-struck m t y r (f .none)
-          go false = none-changed m (renewed (leaseFor (o .lease))) t y r (f .none)
+          go false = none-changed m (renewedHolding (leaseFor (o .lease))) t y r (f .none)
 
       found : Found m t at → Keeps (serveRefresh s q o t) (refreshTally s q o y) (refreshOutcome o (keep m (y .holdings)))
       found f =
@@ -109,11 +109,11 @@ module _ (s : Sender) (q : Question) (o : LlqOption) (t : Table) (y : Tally) (r 
                 outcome = record { opcode = o .opcode; error = 0; number = f .entry .number; lease = grantedLease (o .lease) };
               }))
               (cond b (withHoldings y (keep (λ h. not (m h)) (y .holdings)))
-              (withHoldings y (map (λ h. cond (m h) (renewed (leaseFor (o .lease)) h) h) (y .holdings))))
-              (outcome o 0 (h .number) (cond b 0 (leaseFor (o .lease))))
-          go h e true = (one-struck m t y r at f one, ap (λ (z : ℕ). outcome o 0 z 0) (sym e))
+              (withHoldings y (map (λ h. cond (m h) (renewedHolding (leaseFor (o .lease)) h) h) (y .holdings))))
+              (outcomeTo o 0 (h .number) (cond b 0 (leaseFor (o .lease))))
+          go h e true = (one-struck m t y r at f one, ap (λ (z : ℕ). outcomeTo o 0 z 0) (sym e))
           go h e false = (
-            one-changed m t y r at f one (renewed (leaseFor (o .lease))) (λ h. h .established)
+            one-changed m t y r at f one (renewedHolding (leaseFor (o .lease))) (λ h. h .established)
                 (λ h. cond (m h) (leaseFor (o .lease)) (h .lease)) (λ h. cond (m h) 0 (h .age)) (λ h. marks h (m h))
                 (renew (t .clock .running) (o .lease) (f .entry)) (seen (f .entry)) (fits-renew (t .clock .running) (o .lease) (f .entry) (r .fits .running) (match-fits m t y r at f one))
                 (valid-renewed (holding (t .clock .running) (f .entry))) (live-renewed (holding (t .clock .running) (f .entry))),

@@ -11,7 +11,7 @@ use Rattle.model.specs.Sound.{validLease, live}
 use Rattle.model.specs.Serve.{Sender, answers, establish, onResponse, serveResponse, findEntry, slotOf}
 use Rattle.model.proofs.ListLaws.{and-left}
 use Rattle.model.proofs.StepLaws.{fits-establish}
-use Rattle.claims.specs.Tally.{Tally, isOf, isAnswered, established, responseTally, responseOutcome}
+use Rattle.claims.specs.Tally.{Tally, isOf, isAnswered, establishedHolding, responseTally, responseOutcome}
 use Rattle.claims.proofs.Relation.{Related}
 use Rattle.claims.proofs.Relation.TallyRules.{is-answered}
 use Rattle.claims.proofs.Relation.OneMatch.{Missing, Found, find-cases, keep-none}
@@ -34,7 +34,7 @@ module _ (s : Sender) (q : Question) (o : LlqOption) (t : Table) (y : Tally) (r 
   one = one-question t (r .sound) s q m (λ h k. and-left (isOf s q h) _ (and-left _ _ k))
 
   marks : (h : Holding) (b : Bool)
-      → cond b (established h) h
+      → cond b (establishedHolding h) h
       ≡ record {
         established = cond b true (h .established);
         address = h .address;
@@ -54,7 +54,7 @@ module _ (s : Sender) (q : Question) (o : LlqOption) (t : Table) (y : Tally) (r 
   response-keeps = ⊎-elim missing found (find-cases (answers s q o) m t (is-answered s q o))
     where
       missing : Missing m t at → Keeps (serveResponse s q o t) (responseTally s q o y) (responseOutcome o (keep m (y .holdings)))
-      missing f = rw (answered free (f .slot), keep-none m (y .holdings) (sym (r .entries m) ∙ f .none)) (none-changed m established t y r (f .none), refl)
+      missing f = rw (answered free (f .slot), keep-none m (y .holdings) (sym (r .entries m) ∙ f .none)) (none-changed m establishedHolding t y r (f .none), refl)
 
       found : Found m t at → Keeps (serveResponse s q o t) (responseTally s q o y) (responseOutcome o (keep m (y .holdings)))
       found f =
@@ -62,7 +62,7 @@ module _ (s : Sender) (q : Question) (o : LlqOption) (t : Table) (y : Tally) (r 
           let h = k .0 in
           let same : ((g : Holding → ℕ) → g h ≡ g (holding (t .clock .running) (f .entry))) = k .1 .1 .1 in
           rw (answered (held (f .entry)) (f .slot), k .1 .1 .0) (
-            one-changed m t y r at f one established (λ h. cond (m h) true (h .established)) (λ h. h .lease) (λ h. h .age)
+            one-changed m t y r at f one establishedHolding (λ h. cond (m h) true (h .established)) (λ h. h .lease) (λ h. h .age)
                 (λ h. marks h (m h)) (establish (f .entry)) refl (fits-establish (f .entry) (match-fits m t y r at f one))
                 (match-obeys m t y r at f one validLease (r .sound .leases))
                 (match-obeys m t y r at f one live (r .sound .ages)),

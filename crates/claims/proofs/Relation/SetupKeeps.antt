@@ -19,7 +19,7 @@ use Rattle.model.proofs.Facts.{same-question-sym}
 use Rattle.model.proofs.HoldingLaws.{entries-le, count-granted, free-slot, free-in, room-left}
 use Rattle.model.specs.Rules.{FirstFree}
 use Rattle.model.proofs.StepLaws.{fits-with-slot, fits-new}
-use Rattle.claims.specs.Tally.{Tally, withHoldings, outcome, leaseFor, numberFor, isOf, isFull, newHolding, setupTally, setupOutcome}
+use Rattle.claims.specs.Tally.{Tally, withHoldings, outcomeTo, leaseFor, numberFor, isOf, isFull, newHolding, setupTally, setupOutcome}
 use Rattle.claims.proofs.Relation.{Related}
 use Rattle.claims.proofs.Relation.TallyRules.{is-of, is-full, lease-for}
 use Rattle.claims.proofs.Relation.NumberSearch.{number-first, number-same}
@@ -142,7 +142,7 @@ module _ (s : Sender) (r : ℕ) (q : Question) (o : LlqOption) (t : Table) (y : 
       go : (b : Bool) → isFull y (s .address) ≡ b
           → Keeps (cond b (record { table = t; outcome = retryLater o }) (granted s r q o t))
           (cond b y (withHoldings y (y .holdings ++ (x ∷ []))))
-          (cond b (outcome o 1 0 60) (outcome o 0 (numberFor (y .holdings) r) (leaseFor (o .lease))))
+          (cond b (outcomeTo o 1 0 60) (outcomeTo o 0 (numberFor (y .holdings) r) (leaseFor (o .lease))))
       go true b = (rel, refl)
       go false b = (grant-keeps (f .none) b, same-outcome o 0 same-number (sym (lease-for (o .lease))))
 

@@ -1,0 +1,110 @@
+-- What the lists of calls that break wrong servers are made of: datagrams, rosters, calls that the C types can hold, and what a server does at
+-- each. Assumes nothing.
+use Prim.Native.Nat.{ℕ, zero, suc, _+_, _*_, _/_, _%_, _^_, _<_}
+use native.Mathlib.Omega.{arith}
+use mathlib.Core.Path.{_≡_, refl, sym}
+use mathlib.Core.Bool.{true}
+use mathlib.Core.List.{List, [], _∷_, _++_}
+use lib.ListN.{length, replicate, length-replicate}
+use lib.Dec.{ltb, lit<}
+use borrow.Author.Tests.{ltb-true}
+use Rattle.model.specs.Lists.{every}
+use Rattle.model.specs.Numbers.{Bytes}
+use Rattle.model.specs.Sound.{SoundBytes, soundBytes}
+use Rattle.model.specs.Calls.{ServeCall}
+use Rattle.model.specs.Meets.{Server}
+use Rattle.model.proofs.ListLaws.{and-left, and-right}
+use Rattle.model.proofs.Meaning.{sound-means}
+use Rattle.claims.specs.Tally.{beginTally}
+use Rattle.claims.specs.Events.{Event, served, Trace, AllInRange, MakeInRange, TickInRange, ServeInRange}
+use Rattle.claims.specs.Demand3.{Demand3, Along}
+use Rattle.claims.specs.CallBuilders.{makeAt, tickAt, datagramAt}
+
+-- BYTES, by a test
+abbrev pub areBytes : List ℕ → Type 0
+areBytes s = every (λ x. ltb x 256) s ≡ true
+
+pub bytes-by-test : (s : List ℕ) → areBytes s → Bytes s
+unfolding every
+bytes-by-test [] e i = omega arith
+bytes-by-test (x ∷ s) e zero = ltb-true x 256 (and-left (ltb x 256) (every (λ x. ltb x 256) s) e)
+bytes-by-test (x ∷ s) e (suc i) = bytes-by-test s (and-right (ltb x 256) (every (λ x. ltb x 256) s) e) i
+
+pub sound-by-test : (b : List ℕ) → areBytes b → soundBytes b ≡ true → SoundBytes b
+sound-by-test b e s = sound-means b (bytes-by-test b e) s
+
+-- DATAGRAMS
+-- an LLQ option, error 0
+abbrev sentOption : ℕ → ℕ → ℕ → ℕ → List ℕ
+sentOption version opcode number lease =
+    0 ∷ 1 ∷ 0 ∷ 18 ∷ 0 ∷ version ∷ 0 ∷ opcode ∷ 0 ∷ 0 ∷ 0 ∷ 0 ∷ 0 ∷ 0 ∷ 0 ∷ 0 ∷ 0 ∷ number ∷ 0 ∷ 0 ∷ lease / 256 ∷ lease % 256 ∷ []
+
+-- one question, a., type PTR, class IN, with one option of version 1 and opcode 1: number 0 is a setup, another a response
+abbrev pub asking : ℕ → ℕ → List ℕ
+asking number lease =
+    0 ∷ 1 ∷ 0 ∷ 0 ∷ 0 ∷ 1 ∷ 0 ∷ 0 ∷ 0 ∷ 0 ∷ 0 ∷ 1 ∷ 1 ∷ 97 ∷ 0 ∷ 0 ∷ 12 ∷ 0 ∷ 1 ∷ 0 ∷ 0 ∷ 41 ∷ 5 ∷ 192 ∷ 0 ∷ 0 ∷ 0 ∷ 0 ∷ 0 ∷ 22 ∷ sentOption 1 1 number lease
+
+-- two questions: a setup, and an option of version 2
+abbrev pub askingTwo : List ℕ
+askingTwo =
+    0 ∷ 1 ∷ 0 ∷ 0 ∷ 0 ∷ 2 ∷ 0 ∷ 0 ∷ 0 ∷ 0 ∷ 0 ∷ 1 ∷ 1 ∷ 97 ∷ 0 ∷ 0 ∷ 12 ∷ 0 ∷ 1 ∷ 1 ∷ 98 ∷ 0 ∷ 0 ∷ 12 ∷ 0 ∷ 1 ∷ 0 ∷ 0 ∷ 41 ∷ 5 ∷ 192 ∷ 0 ∷ 0 ∷ 0 ∷ 0 ∷ 0 ∷ 44
+    ∷ (sentOption 1 1 0 3600 ++ sentOption 2 1 0 3600)
+
+-- A ROSTER of one line
+abbrev pub rosterOf : ℕ → ℕ → ℕ → List ℕ
+rosterOf address share limit = 3 ∷ 0 ∷ 0 ∷ 0 ∷ 0 ∷ 0 ∷ 0 ∷ 0 ∷ 0 ∷ 0 ∷ 0 ∷ 0 ∷ 0 ∷ 0 ∷ 0 ∷ 0 ∷ address ∷ share ∷ limit ∷ []
+
+-- CALLS at the first second
+abbrev pub from : ℕ → ℕ → List ℕ → ServeCall
+from address port d = datagramAt 0 0 (record { address = address; port = port }) 7 d 100
+
+pub make-in-range : (r : List ℕ) → areBytes r → MakeInRange (makeAt 0 0 r)
+make-in-range r e = record { week = lit< tt; second = lit< tt; roster = bytes-by-test r e }
+
+pub tick-in-range : TickInRange (tickAt 0 0)
+tick-in-range = record { week = lit< tt; second = lit< tt }
+
+pub from-in-range : (a p : ℕ) (d : List ℕ) → a < 2 ^ 128 → p < 2 ^ 16 → areBytes d → ServeInRange (from a p d)
+from-in-range a p d ha hp e = record { week = lit< tt; second = lit< tt; address = ha; port = hp; random = lit< tt; datagram = bytes-by-test d e }
+
+-- A TABLE'S BUFFER of n slots, and a reply's of the room that a call says
+abbrev pub tableBuffer : ℕ → List ℕ
+tableBuffer n = replicate (313 + 320 * n) 0
+
+abbrev pub replyBuffer : ServeCall → List ℕ
+replyBuffer c = replicate (c .room) 0
+
+-- WHAT A SERVER DOES with datagrams, one after the other, on a table's bytes
+abbrev pub eventOf : Server → List ℕ → ServeCall → Event
+eventOf s b c =
+    let a = s .serve c b (replyBuffer c) in served c (replyBuffer c) (a .number) (a .length) (a .table) (a .reply)
+
+abbrev pub eventsOf : Server → List ℕ → List ServeCall → List Event
+eventsOf s b [] = []
+eventsOf s b (c ∷ cs) = eventOf s b c ∷ eventsOf s (s .serve c b (replyBuffer c) .table) cs
+
+trace-of : (s : Server) (b : List ℕ) (cs : List ServeCall) → Trace s b (eventsOf s b cs)
+trace-of s b [] = tt
+trace-of s b (c ∷ cs) = (
+  (sym (length-replicate (c .room) 0), record { number = refl; length = refl; table = refl; reply = refl }),
+  trace-of s (s .serve c b (replyBuffer c) .table) cs,
+)
+
+abbrev pub ServesInRange : List ServeCall → Type 0
+ServesInRange [] = Unit {0}
+ServesInRange (c ∷ cs) = ServeInRange c × ServesInRange cs
+
+all-in-range : (s : Server) (b : List ℕ) (cs : List ServeCall) → ServesInRange cs → AllInRange (eventsOf s b cs)
+all-in-range s b [] r = tt
+all-in-range s b (c ∷ cs) r = (r .0, all-in-range s (s .serve c b (replyBuffer c) .table) cs (r .1))
+
+-- ON A FRESH TABLE of n slots, with a roster
+module _ (s : Server) (n : ℕ) (r : List ℕ) where
+  abbrev pub freshBytes : List ℕ
+  freshBytes = s .make (makeAt 0 0 r) (tableBuffer n) .table
+
+  pub along-datagrams : Demand3 s → areBytes r → 0 ≡ s .make (makeAt 0 0 r) (tableBuffer n) .number → (cs : List ServeCall) → ServesInRange cs
+      → Along (length (tableBuffer n)) (beginTally (length (tableBuffer n)) (makeAt 0 0 r)) (eventsOf s freshBytes cs)
+  along-datagrams claim e k cs ranges =
+      claim (tableBuffer n) freshBytes (makeAt 0 0 r) (eventsOf s freshBytes cs) (make-in-range r e) (all-in-range s freshBytes cs ranges)
+      (record { number = k; table = refl }) (trace-of s freshBytes cs) .1
