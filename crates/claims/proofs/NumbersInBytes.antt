@@ -10,9 +10,10 @@ use lib.ListN.{length, getD, take, drop, List·getD-append, length-append}
 use lib.Seq.{getD-at, getD-take, getD-drop, getD-append-add, length-take-le}
 use lib.Dec.{ltb}
 use borrow.Author.Tests.{ltb-true, ltb-false}
-use Rattle.model.specs.Numbers.{Bytes, bigEndian, bytesOf, part, splice, encode, total, offset, writes}
+use Rattle.model.specs.Numbers.{Bytes, bigEndian, bytesOf, part, splice, encode}
+use Rattle.model.proofs.Fields.{width}
 use Rattle.model.proofs.ListLaws.{test, getD-past}
-use Rattle.model.proofs.NumberLaws.{length-bytes, big-add, big-one, length-part, getD-part, length-splice, length-encode, writes-eq}
+use Rattle.model.proofs.NumberLaws.{length-bytes, big-add, big-one, length-part, getD-part, length-splice, length-encode}
 use Rattle.claims.specs.NumbersInBytes.{valueAt, Replaced, widthOf, NumbersInBytes}
 
 -- BYTES
@@ -77,14 +78,9 @@ module _ (at k : ℕ) (vs s : List ℕ) (size : length vs ≡ k) (fits : at + k 
 
 -- FIELDS
 
-widths : (fs : List (ℕ × ℕ)) → total fs ≡ widthOf fs (length fs)
+widths : (fs : List (ℕ × ℕ)) → width fs ≡ widthOf fs (length fs)
 widths [] = refl
 widths (f ∷ fs) = ap (λ (k : ℕ). f .0 + k) (widths fs)
-
-starts : (fs : List (ℕ × ℕ)) (i : ℕ) → i < length fs → offset fs i ≡ widthOf fs i
-starts [] i h = refl
-starts (f ∷ fs) zero h = refl
-starts (f ∷ fs) (suc i) h = ap (λ (k : ℕ). f .0 + k) (starts fs i (omega arith))
 
 field-bytes : (fs : List (ℕ × ℕ)) (i j : ℕ) → i < length fs → j < getD fs i (0, 0) .0
     → getD (encode fs) (widthOf fs i + j) 0 ≡ getD (bytesOf (getD fs i (0, 0) .0) (getD fs i (0, 0) .1)) j 0
@@ -110,9 +106,6 @@ numbers-in-bytes =
       partSize = length-part;
       partAt = getD-part;
       spliced = replaced;
-      fieldsSize = λ fs. (length-encode fs ∙ widths fs, widths fs);
-      fieldStart = starts;
+      fieldsSize = λ fs. length-encode fs ∙ widths fs;
       fieldBytes = field-bytes;
-      fieldsWritten = λ fs at s h.
-          rw (writes-eq fs at s h) (replaced at (total fs) (encode fs) s (length-encode fs) h);
     }

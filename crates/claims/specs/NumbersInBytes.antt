@@ -3,7 +3,7 @@ use Prim.Native.Nat.{ℕ, zero, suc, _+_, _-_, _*_, _/_, _%_, _^_, _≤_, _<_}
 use mathlib.Core.Path.{_≡_}
 use mathlib.Core.List.{List, [], _∷_}
 use lib.ListN.{length, getD}
-use Rattle.model.specs.Numbers.{Bytes, bigEndian, bytesOf, part, splice, encode, total, offset, writes}
+use Rattle.model.specs.Numbers.{Bytes, bigEndian, bytesOf, part, splice, encode}
 use Rattle.claims.specs.Demand3.{Exactly}
 
 -- the value of k bytes from a place: the first counts 256 ^ (k − 1) times, the last once
@@ -37,10 +37,7 @@ pub record NumbersInBytes : Type 0 where
   pub partAt : (at k : ℕ) (s : List ℕ) (i : ℕ) → i < k → getD (part at k s) i 0 ≡ getD s (at + i) 0
   -- replaced
   pub spliced : (at k : ℕ) (vs s : List ℕ) → length vs ≡ k → at + k ≤ length s → Replaced at k vs s (splice at k vs s)
-  -- fields one after the other: how long they are, where each starts, and its bytes
-  pub fieldsSize : (fs : List (ℕ × ℕ)) → (length (encode fs) ≡ widthOf fs (length fs)) × (total fs ≡ widthOf fs (length fs))
-  pub fieldStart : (fs : List (ℕ × ℕ)) (i : ℕ) → i < length fs → offset fs i ≡ widthOf fs i
+  -- fields one after the other: how long they are, and the bytes of each
+  pub fieldsSize : (fs : List (ℕ × ℕ)) → length (encode fs) ≡ widthOf fs (length fs)
   pub fieldBytes : (fs : List (ℕ × ℕ)) (i j : ℕ) → i < length fs → j < getD fs i (0, 0) .0
       → getD (encode fs) (widthOf fs i + j) 0 ≡ getD (bytesOf (getD fs i (0, 0) .0) (getD fs i (0, 0) .1)) j 0
-  -- written over a list
-  pub fieldsWritten : (fs : List (ℕ × ℕ)) (at : ℕ) (s : List ℕ) → at + total fs ≤ length s → Replaced at (total fs) (encode fs) s (writes fs at s)
