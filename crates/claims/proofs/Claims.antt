@@ -16,6 +16,7 @@ use Rattle.claims.specs.LiveAge.{LiveAge}
 use Rattle.claims.specs.GrantedNumbers.{GrantedNumbers}
 use Rattle.claims.specs.Repeats.{SetupRepeats, SetupTwice}
 use Rattle.claims.specs.StoredNames.{StoredNames}
+use Rattle.claims.specs.SoundRules.{SoundExactly}
 use Rattle.claims.specs.NumbersInBytes.{NumbersInBytes}
 use Rattle.claims.specs.Step.{StepMeaning}
 use Rattle.claims.proofs.Refusals.{refusals}
@@ -32,6 +33,7 @@ use Rattle.claims.proofs.LiveAge.{live-age}
 use Rattle.claims.proofs.GrantedNumbers.{granted-numbers}
 use Rattle.claims.proofs.Repeats.{setup-repeats, setup-twice}
 use Rattle.claims.proofs.StoredNames.{stored-names}
+use Rattle.claims.proofs.SoundRules.{sound-exactly}
 use Rattle.claims.proofs.NumbersInBytes.{numbers-in-bytes}
 use Rattle.claims.proofs.Step.{step-meaning}
 
@@ -64,6 +66,8 @@ pub record Claims (s : Server) : Type 0 where
   pub setupTwice : SetupTwice
   -- the number granted is the first that is neither 0 nor in use
   pub numbers : GrantedNumbers
+  -- a table is sound exactly by document 01's rules, told line by line and slot by slot
+  pub sound : SoundExactly
   -- a stored name is a wire name of the list's length with no byte A to Z in its labels
   pub storedNames : StoredNames
   -- the step is the one integer of its range that is the places' difference and whole cycles
@@ -90,6 +94,7 @@ claims =
       setupRepeats = setup-repeats;
       setupTwice = setup-twice;
       numbers = granted-numbers;
+      sound = sound-exactly;
       storedNames = stored-names;
       step = step-meaning;
       numbersInBytes = numbers-in-bytes;

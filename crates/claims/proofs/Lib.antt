@@ -19,5 +19,6 @@ pub mod AnySound
 pub mod CallBuilders
 pub mod Impostors
 pub mod StoredNames
+pub mod SoundRules
 pub mod Step
 pub mod Claims

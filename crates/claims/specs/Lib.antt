@@ -20,4 +20,5 @@ pub mod NumbersInBytes
 pub mod GrantedNumbers
 pub mod SoundSamples
 pub mod StoredNames
+pub mod SoundRules
 pub mod Step
