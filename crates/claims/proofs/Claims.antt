@@ -18,6 +18,7 @@ use Rattle.claims.specs.Repeats.{SetupRepeats, SetupTwice}
 use Rattle.claims.specs.StoredNames.{StoredNames}
 use Rattle.claims.specs.SoundRules.{SoundExactly}
 use Rattle.claims.specs.NumbersInBytes.{NumbersInBytes}
+use Rattle.claims.specs.TableLayout.{TableLayout}
 use Rattle.claims.specs.Step.{StepMeaning}
 use Rattle.claims.proofs.Refusals.{refusals}
 use Rattle.claims.proofs.Changes.{changes}
@@ -35,6 +36,7 @@ use Rattle.claims.proofs.Repeats.{setup-repeats, setup-twice}
 use Rattle.claims.proofs.StoredNames.{stored-names}
 use Rattle.claims.proofs.SoundRules.{sound-exactly}
 use Rattle.claims.proofs.NumbersInBytes.{numbers-in-bytes}
+use Rattle.claims.proofs.TableLayout.{table-layout}
 use Rattle.claims.proofs.Step.{step-meaning}
 
 pub record Claims (s : Server) : Type 0 where
@@ -74,6 +76,8 @@ pub record Claims (s : Server) : Type 0 where
   pub step : StepMeaning
   -- numbers are big endian, and lists of bytes are cut and joined as they say
   pub numbersInBytes : NumbersInBytes
+  -- a table's bytes, place by place
+  pub layout : TableLayout
 
 pub claims : Claims model
 claims =
@@ -98,4 +102,5 @@ claims =
       storedNames = stored-names;
       step = step-meaning;
       numbersInBytes = numbers-in-bytes;
+      layout = table-layout;
     }

@@ -20,5 +20,6 @@ pub mod CallBuilders
 pub mod Impostors
 pub mod StoredNames
 pub mod SoundRules
+pub mod TableLayout
 pub mod Step
 pub mod Claims

@@ -21,4 +21,4 @@ sound-samples-hold =
 
 pub pinned : Pinned model
 unfolding model-definitions
-pinned = record { size = refl; made = refl; listed = refl; challenged = refl; acknowledged = refl; renewed = refl }
+pinned = record { size = refl; made = refl; listed = refl; challenged = refl; acknowledged = refl; renewed = refl; written = refl; readBack = refl }

@@ -21,4 +21,5 @@ pub mod GrantedNumbers
 pub mod SoundSamples
 pub mod StoredNames
 pub mod SoundRules
+pub mod TableLayout
 pub mod Step
