@@ -19,6 +19,8 @@ use Rattle.claims.specs.StoredNames.{StoredNames}
 use Rattle.claims.specs.SoundRules.{SoundExactly}
 use Rattle.claims.specs.NumbersInBytes.{NumbersInBytes}
 use Rattle.claims.specs.TableLayout.{TableLayout}
+use Rattle.claims.specs.Contracts.{CallsSettled, ContractsSettled}
+use Rattle.claims.specs.Impostors.{Refuted}
 use Rattle.claims.specs.Step.{StepMeaning}
 use Rattle.claims.proofs.Refusals.{refusals}
 use Rattle.claims.proofs.Changes.{changes}
@@ -37,6 +39,8 @@ use Rattle.claims.proofs.StoredNames.{stored-names}
 use Rattle.claims.proofs.SoundRules.{sound-exactly}
 use Rattle.claims.proofs.NumbersInBytes.{numbers-in-bytes}
 use Rattle.claims.proofs.TableLayout.{table-layout}
+use Rattle.claims.proofs.Contracts.{calls-settled, contracts-settled}
+use Rattle.claims.proofs.Impostors.{refuted}
 use Rattle.claims.proofs.Step.{step-meaning}
 
 pub record Claims (s : Server) : Type 0 where
@@ -78,6 +82,11 @@ pub record Claims (s : Server) : Type 0 where
   pub numbersInBytes : NumbersInBytes
   -- a table's bytes, place by place
   pub layout : TableLayout
+  -- a call's numbers and bytes are settled, and so are the public contracts
+  pub calls : CallsSettled s
+  pub contracts : ContractsSettled
+  -- twelve wrong servers break a claim each
+  pub refuted : Refuted
 
 pub claims : Claims model
 claims =
@@ -103,4 +112,7 @@ claims =
       step = step-meaning;
       numbersInBytes = numbers-in-bytes;
       layout = table-layout;
+      calls = calls-settled model;
+      contracts = contracts-settled;
+      refuted = refuted;
     }

@@ -21,5 +21,6 @@ pub mod Impostors
 pub mod StoredNames
 pub mod SoundRules
 pub mod TableLayout
+pub mod Contracts
 pub mod Step
 pub mod Claims

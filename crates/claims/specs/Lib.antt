@@ -22,4 +22,5 @@ pub mod SoundSamples
 pub mod StoredNames
 pub mod SoundRules
 pub mod TableLayout
+pub mod Contracts
 pub mod Step
