@@ -19,6 +19,7 @@ use Rattle.claims.specs.StoredNames.{StoredNames}
 use Rattle.claims.specs.SoundRules.{SoundExactly}
 use Rattle.claims.specs.NumbersInBytes.{NumbersInBytes}
 use Rattle.claims.specs.TableLayout.{TableLayout}
+use Rattle.claims.specs.OneSlot.{OneSlot}
 use Rattle.claims.specs.Contracts.{CallsSettled, ContractsSettled}
 use Rattle.claims.specs.Impostors.{Refuted}
 use Rattle.claims.specs.Step.{StepMeaning}
@@ -39,6 +40,7 @@ use Rattle.claims.proofs.StoredNames.{stored-names}
 use Rattle.claims.proofs.SoundRules.{sound-exactly}
 use Rattle.claims.proofs.NumbersInBytes.{numbers-in-bytes}
 use Rattle.claims.proofs.TableLayout.{table-layout}
+use Rattle.claims.proofs.OneSlot.{one-slot}
 use Rattle.claims.proofs.Contracts.{calls-settled, contracts-settled}
 use Rattle.claims.proofs.Impostors.{refuted}
 use Rattle.claims.proofs.Step.{step-meaning}
@@ -82,6 +84,8 @@ pub record Claims (s : Server) : Type 0 where
   pub numbersInBytes : NumbersInBytes
   -- a table's bytes, place by place
   pub layout : TableLayout
+  -- a slot written, and all else as it was
+  pub slot : OneSlot
   -- a call's numbers and bytes are settled, and so are the public contracts
   pub calls : CallsSettled s
   pub contracts : ContractsSettled
@@ -112,6 +116,7 @@ claims =
       step = step-meaning;
       numbersInBytes = numbers-in-bytes;
       layout = table-layout;
+      slot = one-slot;
       calls = calls-settled model;
       contracts = contracts-settled;
       refuted = refuted;

@@ -21,6 +21,7 @@ pub mod Impostors
 pub mod StoredNames
 pub mod SoundRules
 pub mod TableLayout
+pub mod OneSlot
 pub mod Contracts
 pub mod Step
 pub mod Claims

@@ -22,5 +22,6 @@ pub mod SoundSamples
 pub mod StoredNames
 pub mod SoundRules
 pub mod TableLayout
+pub mod OneSlot
 pub mod Contracts
 pub mod Step
