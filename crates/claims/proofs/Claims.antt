@@ -16,7 +16,12 @@ use Rattle.claims.specs.LiveAge.{LiveAge}
 use Rattle.claims.specs.GrantedNumbers.{GrantedNumbers}
 use Rattle.claims.specs.Repeats.{SetupRepeats, SetupTwice}
 use Rattle.claims.specs.StoredNames.{StoredNames}
+use Rattle.claims.specs.SoundRules.{SoundExactly}
 use Rattle.claims.specs.NumbersInBytes.{NumbersInBytes}
+use Rattle.claims.specs.TableLayout.{TableLayout}
+use Rattle.claims.specs.OneSlot.{OneSlot}
+use Rattle.claims.specs.Contracts.{CallsSettled, ContractsSettled}
+use Rattle.claims.specs.Impostors.{Refuted}
 use Rattle.claims.specs.Step.{StepMeaning}
 use Rattle.claims.proofs.Refusals.{refusals}
 use Rattle.claims.proofs.Changes.{changes}
@@ -32,7 +37,12 @@ use Rattle.claims.proofs.LiveAge.{live-age}
 use Rattle.claims.proofs.GrantedNumbers.{granted-numbers}
 use Rattle.claims.proofs.Repeats.{setup-repeats, setup-twice}
 use Rattle.claims.proofs.StoredNames.{stored-names}
+use Rattle.claims.proofs.SoundRules.{sound-exactly}
 use Rattle.claims.proofs.NumbersInBytes.{numbers-in-bytes}
+use Rattle.claims.proofs.TableLayout.{table-layout}
+use Rattle.claims.proofs.OneSlot.{one-slot}
+use Rattle.claims.proofs.Contracts.{calls-settled, contracts-settled}
+use Rattle.claims.proofs.Impostors.{refuted}
 use Rattle.claims.proofs.Step.{step-meaning}
 
 pub record Claims (s : Server) : Type 0 where
@@ -64,12 +74,23 @@ pub record Claims (s : Server) : Type 0 where
   pub setupTwice : SetupTwice
   -- the number granted is the first that is neither 0 nor in use
   pub numbers : GrantedNumbers
+  -- a table is sound exactly by document 01's rules, told line by line and slot by slot
+  pub sound : SoundExactly
   -- a stored name is a wire name of the list's length with no byte A to Z in its labels
   pub storedNames : StoredNames
   -- the step is the one integer of its range that is the places' difference and whole cycles
   pub step : StepMeaning
   -- numbers are big endian, and lists of bytes are cut and joined as they say
   pub numbersInBytes : NumbersInBytes
+  -- a table's bytes, place by place
+  pub layout : TableLayout
+  -- a slot written, and all else as it was
+  pub slot : OneSlot
+  -- a call's numbers and bytes are settled, and so are the public contracts
+  pub calls : CallsSettled s
+  pub contracts : ContractsSettled
+  -- twelve wrong servers break a claim each
+  pub refuted : Refuted
 
 pub claims : Claims model
 claims =
@@ -90,7 +111,13 @@ claims =
       setupRepeats = setup-repeats;
       setupTwice = setup-twice;
       numbers = granted-numbers;
+      sound = sound-exactly;
       storedNames = stored-names;
       step = step-meaning;
       numbersInBytes = numbers-in-bytes;
+      layout = table-layout;
+      slot = one-slot;
+      calls = calls-settled model;
+      contracts = contracts-settled;
+      refuted = refuted;
     }

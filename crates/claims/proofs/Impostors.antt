@@ -23,7 +23,7 @@ use Rattle.claims.specs.Established.{EstablishedExactly}
 use Rattle.claims.specs.Tick.{Ticking}
 use Rattle.claims.specs.Reply.{ReplyClaim}
 use Rattle.claims.specs.CallBuilders.{makeAt, tickAt}
-use Rattle.claims.specs.Impostors.{right, serverOf, serveWith, tableWith, refusesAll, constantReply, saysFull, leavesTable, copiesFirst, inventsFreed, grantsUnstored, comparesSum, dropsPending, grantsIfFree, countsByPort, findsByNumber}
+use Rattle.claims.specs.Impostors.{right, serverOf, serveWith, tableWith, refusesAll, constantReply, saysFull, leavesTable, copiesFirst, inventsFreed, grantsUnstored, comparesSum, dropsPending, grantsIfFree, countsByPort, findsByNumber, Refuted}
 use Rattle.claims.proofs.Demand3.Permutations.{perm-alike}
 use Rattle.claims.proofs.Definitions.{all-definitions}
 use Rattle.claims.proofs.CallBuilders.{bytes-by-test, sound-by-test, asking, askingTwo, rosterOf, from, make-in-range, tick-in-range, from-in-range, tableBuffer, replyBuffer, freshBytes, along-datagrams}
@@ -43,7 +43,7 @@ stranger-in-range = from-in-range 9 1 (asking 0 3600) (lit< tt) (lit< tt) refl
 -- ---- DOCUMENT 01'S IMPOSTORS
 
 -- a call that is right in all is refused
-pub refuses-all : Refusals refusesAll → ⊥
+refuses-all : Refusals refusesAll → ⊥
 unfolding every
 refuses-all r =
     ⊎-elim
@@ -60,7 +60,7 @@ refuses-all r =
     reading (secondTooLarge h) = omega arith
 
 -- another message number is not repeated
-pub constant-reply : ReplyClaim constantReply → ⊥
+constant-reply : ReplyClaim constantReply → ⊥
 unfolding all-definitions
 constant-reply r =
     let b = freshBytes constantReply 1 [] in
@@ -68,7 +68,7 @@ constant-reply r =
     absurd (omega arith)
 
 -- the first setup on an empty table is not full
-pub says-full : Demand3 saysFull → ⊥
+says-full : Demand3 saysFull → ⊥
 unfolding all-definitions
 says-full d =
     let h = along-datagrams saysFull 1 [] d refl refl (stranger ∷ []) (stranger-in-range, tt) .0 in
@@ -76,14 +76,14 @@ says-full d =
     ⊎-elim (λ h. absurd (omega (arith, h))) (λ h. absurd (omega (arith, h .1))) (o .fullExactly .0 refl .1)
 
 -- a setup granted leaves no entry
-pub leaves-table : Demand3 leavesTable → ⊥
+leaves-table : Demand3 leavesTable → ⊥
 unfolding all-definitions
 leaves-table d =
     let h = along-datagrams leavesTable 1 [] d refl refl (stranger ∷ []) (stranger-in-range, tt) .0 in
     let z : _≡_ {A = ℕ} 0 1 = as-many _ _ (h .agrees) in
     absurd (omega arith)
 
-pub grants-unstored : Demand3 grantsUnstored → ⊥
+grants-unstored : Demand3 grantsUnstored → ⊥
 unfolding all-definitions
 grants-unstored d =
     let h = along-datagrams grantsUnstored 1 [] d refl refl (stranger ∷ []) (stranger-in-range, tt) .0 in
@@ -91,7 +91,7 @@ grants-unstored d =
     absurd (omega arith)
 
 -- the second option has version 2, error 5
-pub copies-first : Demand3 copiesFirst → ⊥
+copies-first : Demand3 copiesFirst → ⊥
 unfolding all-definitions
 copies-first d =
     let h = along-datagrams copiesFirst 1 [] d refl refl (from 9 1 askingTwo ∷ []) (from-in-range 9 1 askingTwo (lit< tt) (lit< tt) refl, tt) .0 in
@@ -99,7 +99,7 @@ copies-first d =
     absurd (omega arith)
 
 -- the only slot is reserved to address 7
-pub grants-if-free : Demand3 grantsIfFree → ⊥
+grants-if-free : Demand3 grantsIfFree → ⊥
 unfolding all-definitions
 grants-if-free d =
     let h = along-datagrams grantsIfFree 1 (rosterOf 7 1 1) d refl refl (stranger ∷ []) (stranger-in-range, tt) .0 in
@@ -108,7 +108,7 @@ grants-if-free d =
     absurd (omega arith)
 
 -- address 7 has limit 1 and asks from a second port
-pub counts-by-port : Demand3 countsByPort → ⊥
+counts-by-port : Demand3 countsByPort → ⊥
 unfolding all-definitions
 counts-by-port d =
     let q = asking 0 3600 in
@@ -129,7 +129,7 @@ abbrev onlyTable : ℕ → Entry → Table
 onlyTable running e = record { clock = record { place = 0; running = running }; roster = []; slots = held e ∷ [] }
 
 -- it reports one entry freed of none
-pub invents-freed : Ticking inventsFreed → ⊥
+invents-freed : Ticking inventsFreed → ⊥
 unfolding all-definitions
 invents-freed k =
     let b = freshBytes inventsFreed 1 [] in
@@ -137,7 +137,7 @@ invents-freed k =
     absurd (omega arith)
 
 -- near the wrap of the running count a live entry is freed
-pub compares-sum : Ticking comparesSum → ⊥
+compares-sum : Ticking comparesSum → ⊥
 unfolding all-definitions
 compares-sum k =
     let e = onlyEntry true 60 4294967290 in
@@ -145,7 +145,7 @@ compares-sum k =
     not-held e (k (tickAt 0 0) b tick-in-range (sound-by-test b refl refl) refl .moved .kept 0 e refl (λ h. omega arith))
 
 -- a pending entry of age 20 is freed
-pub drops-pending : Ticking dropsPending → ⊥
+drops-pending : Ticking dropsPending → ⊥
 unfolding all-definitions
 drops-pending k =
     let e = onlyEntry false 60 0 in
@@ -153,7 +153,7 @@ drops-pending k =
     not-held e (k (tickAt 0 0) b tick-in-range (sound-by-test b refl refl) refl .moved .kept 0 e refl (λ h. omega arith))
 
 -- another address quotes the number and the lease of a pending entry
-pub finds-by-number : EstablishedExactly findsByNumber → ⊥
+finds-by-number : EstablishedExactly findsByNumber → ⊥
 unfolding all-definitions
 finds-by-number k =
     let e = onlyEntry false 3600 0 in
@@ -169,6 +169,25 @@ finds-by-number k =
     slotState : Slot → Bool
     slotState free = false
     slotState (held x) = x .established
+
+-- ---- ALL TWELVE
+
+pub refuted : Refuted
+refuted =
+    record {
+      refusesAll = refuses-all;
+      constantReply = constant-reply;
+      saysFull = says-full;
+      leavesTable = leaves-table;
+      copiesFirst = copies-first;
+      inventsFreed = invents-freed;
+      grantsUnstored = grants-unstored;
+      comparesSum = compares-sum;
+      dropsPending = drops-pending;
+      grantsIfFree = grants-if-free;
+      countsByPort = counts-by-port;
+      findsByNumber = finds-by-number;
+    }
 
 -- ---- THE WRONG SERVERS' COMMON PARTS ARE THE MODEL'S
 

@@ -19,5 +19,9 @@ pub mod AnySound
 pub mod CallBuilders
 pub mod Impostors
 pub mod StoredNames
+pub mod SoundRules
+pub mod TableLayout
+pub mod OneSlot
+pub mod Contracts
 pub mod Step
 pub mod Claims

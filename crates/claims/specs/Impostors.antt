@@ -1,4 +1,5 @@
--- Wrong servers: document 01's impostors and the old box's five faults, each the model with one part wrong. Assumes nothing.
+-- Wrong servers: document 01's impostors and the old box's five faults, each the model with one part wrong, and the claim that each breaks.
+-- Assumes nothing.
 use Prim.Native.Nat.{ℕ, zero, suc, _+_, _-_, _%_, _^_}
 use mathlib.Core.Bool.{Bool, not, cond, _&&_, _||_}
 use mathlib.Core.List.{List, [], _∷_, _++_, map}
@@ -14,6 +15,11 @@ use Rattle.model.specs.Reply.{replyBytes, replyLength, mismatch}
 use Rattle.model.specs.Calls.{MakeCall, TickCall, ServeCall, Made, Ticked, Answered, madeBy, tickedBy, servedBy, tick, serve, tickRefusal, serveRefusal}
 use Rattle.model.specs.Meets.{Server, model}
 use Rattle.claims.specs.Pins.{challengeReply}
+use Rattle.claims.specs.Refusals.{Refusals}
+use Rattle.claims.specs.Established.{EstablishedExactly}
+use Rattle.claims.specs.Tick.{Ticking}
+use Rattle.claims.specs.Demand3.{Demand3}
+use Rattle.claims.specs.Reply.{ReplyClaim}
 
 -- A SERVER WITH ONE CALL OF ITS OWN, the others those of the server given: a further call is one line in each
 abbrev pub withMake : Server → (MakeCall → List ℕ → Made) → Server
@@ -184,3 +190,18 @@ findsByNumber =
     withOption
     (λ s r q o t.
     byKind (serveKind setup) (λ s r q o t. let i = findEntry (λ h. numbered (o .number) h && rightLease o h) t in onResponse o t i (slotOf t i)) (kindOfOption o) s r q o t)
+
+-- EACH BREAKS A CLAIM
+pub record Refuted : Type 0 where
+  pub refusesAll : Refusals refusesAll → ⊥
+  pub constantReply : ReplyClaim constantReply → ⊥
+  pub saysFull : Demand3 saysFull → ⊥
+  pub leavesTable : Demand3 leavesTable → ⊥
+  pub copiesFirst : Demand3 copiesFirst → ⊥
+  pub inventsFreed : Ticking inventsFreed → ⊥
+  pub grantsUnstored : Demand3 grantsUnstored → ⊥
+  pub comparesSum : Ticking comparesSum → ⊥
+  pub dropsPending : Ticking dropsPending → ⊥
+  pub grantsIfFree : Demand3 grantsIfFree → ⊥
+  pub countsByPort : Demand3 countsByPort → ⊥
+  pub findsByNumber : EstablishedExactly findsByNumber → ⊥

@@ -20,4 +20,8 @@ pub mod NumbersInBytes
 pub mod GrantedNumbers
 pub mod SoundSamples
 pub mod StoredNames
+pub mod SoundRules
+pub mod TableLayout
+pub mod OneSlot
+pub mod Contracts
 pub mod Step

@@ -1,9 +1,11 @@
--- W11, and the table's bytes after its making, its setup, its response and a refresh without RD, written out from document 01's layout.
--- Assumes nothing.
+-- W11, and the table's bytes after its making, its setup, its response and a refresh without RD, and those of a table whose numbers have no byte
+-- in common, written out from document 01's layout. Assumes nothing.
 use Prim.Native.Nat.{ℕ, _+_, _*_, _^_}
 use mathlib.Core.Path.{_≡_}
+use mathlib.Core.Bool.{true, false}
 use mathlib.Core.List.{List, [], _∷_, _++_}
 use lib.ListN.{length, replicate}
+use Rattle.model.specs.Table.{Entry, Slot, free, held, Table, tableBytes, readTable}
 use Rattle.model.specs.Serve.{Sender}
 use Rattle.model.specs.Calls.{MakeCall, ServeCall}
 use Rattle.model.specs.Meets.{Server}
@@ -139,6 +141,69 @@ listedPin =
     clockPin 0x82 0 ++ firstPin ++ secondPin ++ unusedPin ++ unusedPin ++ unusedPin ++ unusedPin ++ unusedPin ++ unusedPin ++ unusedPin ++ unusedPin ++ unusedPin ++ unusedPin
     ++ unusedPin ++ unusedPin ++ unusedPin ++ unusedPin ++ freePin
 
+-- A TABLE OF THREE SLOTS, one free, one pending, one established, with two lines: no byte of its numbers is there twice
+abbrev pub apartTable : Table
+apartTable =
+    record {
+      clock = record { place = 0x01020304; running = 0x05060708 };
+      roster =
+          record { address = 0x2122232425262728292A2B2C2D2E2F30; share = 0x09; limit = 0x0A }
+          ∷ record { address = 0x3132333435363738393A3B3C3D3E3F40; share = 0x0B; limit = 0x0C } ∷ [];
+      slots =
+          free
+          ∷ held (record {
+            established = false;
+            address = 0x4142434445464748494A4B4C4D4E4F50;
+            port = 0x5152;
+            number = 0x535455565758595A;
+            lease = 0x5B5C5D5E;
+            stamp = 0x5F606162;
+            qtype = 0x6364;
+            qclass = 0x6566;
+            name = 4 ∷ 0x67 ∷ 0x68 ∷ 0x69 ∷ 0x6A ∷ 0 ∷ [];
+          })
+          ∷ held (record {
+            established = true;
+            address = 0x7172737475767778797A7B7C7D7E7F80;
+            port = 0x8182;
+            number = 0x838485868788898A;
+            lease = 0x8B8C8D8E;
+            stamp = 0x8F909192;
+            qtype = 0x9394;
+            qclass = 0x9596;
+            name = 0 ∷ [];
+          })
+          ∷ [];
+    }
+
+abbrev pub apartPin : List ℕ
+apartPin =
+    (1 ∷ 0x01 ∷ 0x02 ∷ 0x03 ∷ 0x04 ∷ 0x05 ∷ 0x06 ∷ 0x07 ∷ 0x08 ∷ [])
+    ++ (3 ∷ 0x21 ∷ 0x22 ∷ 0x23 ∷ 0x24 ∷ 0x25 ∷ 0x26 ∷ 0x27 ∷ 0x28 ∷ 0x29 ∷ 0x2A ∷ 0x2B ∷ 0x2C ∷ 0x2D ∷ 0x2E ∷ 0x2F ∷ 0x30 ∷ 0x09 ∷ 0x0A ∷ [])
+    ++ (3 ∷ 0x31 ∷ 0x32 ∷ 0x33 ∷ 0x34 ∷ 0x35 ∷ 0x36 ∷ 0x37 ∷ 0x38 ∷ 0x39 ∷ 0x3A ∷ 0x3B ∷ 0x3C ∷ 0x3D ∷ 0x3E ∷ 0x3F ∷ 0x40 ∷ 0x0B ∷ 0x0C ∷ [])
+    ++ unusedPin ++ unusedPin ++ unusedPin ++ unusedPin ++ unusedPin ++ unusedPin ++ unusedPin ++ unusedPin ++ unusedPin ++ unusedPin ++ unusedPin ++ unusedPin ++ unusedPin ++ unusedPin
+    ++ freePin
+    ++ (5
+    ∷ 0x41 ∷ 0x42 ∷ 0x43 ∷ 0x44 ∷ 0x45 ∷ 0x46 ∷ 0x47 ∷ 0x48 ∷ 0x49 ∷ 0x4A ∷ 0x4B ∷ 0x4C ∷ 0x4D ∷ 0x4E ∷ 0x4F ∷ 0x50
+    ∷ 0x51 ∷ 0x52
+    ∷ 0x53 ∷ 0x54 ∷ 0x55 ∷ 0x56 ∷ 0x57 ∷ 0x58 ∷ 0x59 ∷ 0x5A
+    ∷ 0x5B ∷ 0x5C ∷ 0x5D ∷ 0x5E
+    ∷ 0x5F ∷ 0x60 ∷ 0x61 ∷ 0x62
+    ∷ 0x63 ∷ 0x64
+    ∷ 0x65 ∷ 0x66
+    ∷ 6
+    ∷ 4 ∷ 0x67 ∷ 0x68 ∷ 0x69 ∷ 0x6A ∷ 0 ∷ (zeros 249 ++ zeros 25))
+    ++ (6
+    ∷ 0x71 ∷ 0x72 ∷ 0x73 ∷ 0x74 ∷ 0x75 ∷ 0x76 ∷ 0x77 ∷ 0x78 ∷ 0x79 ∷ 0x7A ∷ 0x7B ∷ 0x7C ∷ 0x7D ∷ 0x7E ∷ 0x7F ∷ 0x80
+    ∷ 0x81 ∷ 0x82
+    ∷ 0x83 ∷ 0x84 ∷ 0x85 ∷ 0x86 ∷ 0x87 ∷ 0x88 ∷ 0x89 ∷ 0x8A
+    ∷ 0x8B ∷ 0x8C ∷ 0x8D ∷ 0x8E
+    ∷ 0x8F ∷ 0x90 ∷ 0x91 ∷ 0x92
+    ∷ 0x93 ∷ 0x94
+    ∷ 0x95 ∷ 0x96
+    ∷ 1
+    ∷ 0 ∷ (zeros 254 ++ zeros 25))
+
 -- a server makes, challenges, acknowledges and renews as written out; 8 bytes past each reply keep what they held
 pub record Pinned (s : Server) : Type 0 where
   pub size : length madePin ≡ 1593
@@ -149,3 +214,6 @@ pub record Pinned (s : Server) : Type 0 where
       ≡ record { number = 0; length = 52; table = establishedPin; reply = acknowledgmentReply ++ replicate 8 0xAA }
   pub renewed : s .serve refreshCall establishedPin (replicate 60 0xAA)
       ≡ record { number = 0; length = 52; table = renewedPin; reply = renewalReply ++ replicate 8 0xAA }
+  -- the definitions write and read the three slots so
+  pub written : tableBytes apartTable ≡ apartPin
+  pub readBack : readTable apartPin ≡ apartTable

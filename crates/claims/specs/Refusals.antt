@@ -1,6 +1,6 @@
 -- Claim 1: each number is given exactly if its condition holds and none of a lower number that the call can give. Assumes nothing.
--- The conditions are spelled out clause by clause, apart from the model's reader and its ladder, but for soundness (1) and, in 8, the count and
--- length test, which `Reading` spells out.
+-- The conditions are spelled out clause by clause, apart from the model's reader and its ladder, but for soundness (1), which `SoundRules` and
+-- `TableLayout` spell out, and, in 8, the count and length test, which `Reading` does.
 use Prim.Native.Nat.{ℕ, zero, suc, _+_, _-_, _*_, _/_, _%_, _≤_, _<_}
 use mathlib.Core.Path.{_≡_}
 use mathlib.Core.Bool.{cond}

@@ -72,9 +72,9 @@ one established e = (soundTable (table 5 [] (entry established 1 (e .number) (e 
 
 -- TABLES
 
--- two entries, by the second's state, port and number
-abbrev pub two : Bool → ℕ → ℕ → Bool
-two established port number = soundTable (table 5 [] (entry false 1 7 60 100 name ∷ entry established port number 60 100 name ∷ []))
+-- two entries, by their states and the second's port and number
+abbrev pub two : Bool → Bool → ℕ → ℕ → Bool
+two first second port number = soundTable (table 5 [] (entry first 1 7 60 100 name ∷ entry second port number 60 100 name ∷ []))
 
 -- four entries of address 9, two of them established, and a fifth, with a roster
 abbrev pub four : List Slot
@@ -106,12 +106,15 @@ tableSamples =
     ∷ (roster (line 1 1 1 ∷ line 2 1 1 ∷ []), true)  -- shares sum to at most n
     ∷ (roster (line 1 1 1 ∷ line 2 2 2 ∷ []), false)
     ∷ (roster (line 1 0 1 ∷ line 1 0 1 ∷ []), false)  -- listed addresses differ
-    ∷ (two false 2 8, true)  -- entries differ in number and in question, whatever their states
-    ∷ (two false 2 7, false)
-    ∷ (two false 1 8, false)
-    ∷ (two true 2 8, true)
-    ∷ (two true 2 7, false)
-    ∷ (two true 1 8, false)
+    ∷ (two false false 2 8, true)  -- entries differ in number and in question, whatever their states
+    ∷ (two false false 2 7, false)
+    ∷ (two false false 1 8, false)
+    ∷ (two false true 2 8, true)
+    ∷ (two false true 2 7, false)
+    ∷ (two false true 1 8, false)
+    ∷ (two true true 2 8, true)
+    ∷ (two true true 2 7, false)
+    ∷ (two true true 1 8, false)
     ∷ (soundTable (table 5 [] four), true)  -- limits: 4 unlisted, the line's if listed
     ∷ (five [], false)
     ∷ (five (line 9 0 5 ∷ []), true)
