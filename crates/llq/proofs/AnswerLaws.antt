@@ -24,7 +24,7 @@ use Rattle.layout.proofs.ReadLaws.{running-read}
 use Rattle.query.specs.Whole.{queryRefusal}
 use Rattle.table.specs.Written.{WellFormed, Written}
 use Rattle.table.specs.Fresh.{fresh}
-use Rattle.llq.specs.Answer.{Measures, Matches, tableFrom, outcomeFrom, frontBytes, tableDone, outcomesDone, Answers}
+use Rattle.llq.specs.Answer.{Measures, Matches, tableFrom, outcomeFrom, beforeOptions, tableDone, outcomesDone, Answers}
 use Rattle.llq.proofs.ReplyLaws.{length-matched, length-mismatched, options-next, reply-written}
 use Rattle.llq.proofs.OrderLaws.{from-none, from-next, outcome-next, start, after-is, outcomes-is}
 use Rattle.llq.proofs.LadderLaws.{noRoom, serve-done}
@@ -97,7 +97,7 @@ module _ (s : Sender) (r : ℕ) (d b lent : List ℕ) (n end : ℕ) (v : Bool) (
 
   pub answers-matched : (after left : List ℕ) → v ≡ true → Written after (tableFrom s r d (readTable b) n)
       → left ≡ splice (end + 11) (22 * n) (flat optionBytes (upTo n (outcomeFrom s r d (readTable b))))
-      (splice 0 (end + 11) (frontBytes d n) lent)
+      (splice 0 (end + 11) (beforeOptions d n) lent)
       → Answers s r d b after lent left
   answers-matched after left e w l =
       let m : matched d ≡ true = sym t ∙ e in
@@ -114,7 +114,7 @@ module _ (s : Sender) (r : ℕ) (d b lent : List ℕ) (n end : ℕ) (v : Bool) (
       }
 
   pub answers-mismatched : (left : List ℕ) → v ≡ false → WellFormed b
-      → left ≡ splice (end + 11) 22 (optionBytes mismatch) (splice 0 (end + 11) (frontBytes d 1) lent) → Answers s r d b b lent left
+      → left ≡ splice (end + 11) 22 (optionBytes mismatch) (splice 0 (end + 11) (beforeOptions d 1) lent) → Answers s r d b b lent left
   unfolding tableFrom flat
   answers-mismatched left e formed l =
       let m : matched d ≡ false = sym t ∙ e in
@@ -123,7 +123,7 @@ module _ (s : Sender) (r : ℕ) (d b lent : List ℕ) (n end : ℕ) (v : Bool) (
       let one : flat optionBytes (mismatch ∷ []) ≡ optionBytes mismatch = append-nil (optionBytes mismatch) in
       let whole = reply-written d (mismatch ∷ []) 1 lent from within refl (omega (arith, size, fits)) in
       let os : mismatch ∷ [] ≡ outcomesDone s r d (readTable b) = sym (ap (λ (w : Bool). cond w (upTo (qdcount d) f) (mismatch ∷ [])) m) in
-      let bytes : left ≡ splice (questionsEnd d + 11) (22 * 1) (flat optionBytes (mismatch ∷ [])) (splice 0 (questionsEnd d + 11) (frontBytes d 1) lent) =
+      let bytes : left ≡ splice (questionsEnd d + 11) (22 * 1) (flat optionBytes (mismatch ∷ [])) (splice 0 (questionsEnd d + 11) (beforeOptions d 1) lent) =
       rw one (rw (h .end) at l) in
       record {
         table = sym formed ∙ sym (ap (λ (w : Bool). tableBytes (tableFrom s r d (readTable b) (cond w (qdcount d) 0))) m);

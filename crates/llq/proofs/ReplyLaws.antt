@@ -1,4 +1,4 @@
--- The reply, written in parts: the front, then the options one after the other. Assumes nothing.
+-- The reply, written in parts: what stands before the options, then the options one after the other. Assumes nothing.
 use Prim.Native.Nat.{ℕ, _+_, _-_, _*_, _≤_}
 use native.Mathlib.Nat.{zero-add}
 use native.Mathlib.Omega.{arith}
@@ -15,7 +15,7 @@ use Rattle.model.proofs.NumberLaws.{splice-on}
 use Rattle.model.proofs.TableLaws.{rows-none, rows-next}
 use Rattle.model.proofs.ReplyLaws.{length-header, length-questions, length-opt, length-option}
 use Rattle.wire.specs.Write.{headerSent}
-use Rattle.llq.specs.Answer.{Measures, Matches, frontBytes}
+use Rattle.llq.specs.Answer.{Measures, Matches, beforeOptions}
 
 -- THE LENGTH
 
@@ -33,7 +33,7 @@ module _ (d : List ℕ) (n end : ℕ) (v : Bool) (h : Measures d n end) (t : Mat
       let e : replyOptions d ≡ 1 = ap (λ (v : Bool). cond v (qdcount d) 1) (sym t ∙ m) in
       omega (arith, e, h .end, h .from)
 
--- THE FRONT
+-- BEFORE THE OPTIONS
 
 -- the header that the code writes is the model's
 pub header-is : (d : List ℕ) (number desired count : ℕ) → number ≡ messageNumber d → desired ≡ flagRD d → count ≡ qdcount d
@@ -45,23 +45,23 @@ module _ (d : List ℕ) (k : ℕ) (from : 12 ≤ questionsEnd d) (within : quest
   length-start : length (headerBytes d ++ questionBytes d) ≡ questionsEnd d
   length-start = simp (length-append, length-header d, length-questions d from within) (omega arith)
 
-  front-start : frontBytes d k ≡ (headerBytes d ++ questionBytes d) ++ optBytes k
-  unfolding frontBytes
-  front-start = sym (append-assoc (headerBytes d) (questionBytes d) (optBytes k))
+  before-start : beforeOptions d k ≡ (headerBytes d ++ questionBytes d) ++ optBytes k
+  unfolding beforeOptions
+  before-start = sym (append-assoc (headerBytes d) (questionBytes d) (optBytes k))
 
-  pub length-front : length (frontBytes d k) ≡ questionsEnd d + 11
-  length-front = ap length front-start ∙ simp (length-append (headerBytes d ++ questionBytes d) (optBytes k), length-start, length-opt k) (omega arith)
+  pub length-before : length (beforeOptions d k) ≡ questionsEnd d + 11
+  length-before = ap length before-start ∙ simp (length-append (headerBytes d ++ questionBytes d) (optBytes k), length-start, length-opt k) (omega arith)
 
   -- header, questions and OPT record written one after the other
-  pub front-written : (s : List ℕ) → questionsEnd d + 11 ≤ length s
+  pub before-written : (s : List ℕ) → questionsEnd d + 11 ≤ length s
       → splice (questionsEnd d) 11 (optBytes k) (splice 12 (questionsEnd d - 12) (questionBytes d) (splice 0 12 (headerBytes d) s))
-      ≡ splice 0 (questionsEnd d + 11) (frontBytes d k) s
-  front-written s h =
+      ≡ splice 0 (questionsEnd d + 11) (beforeOptions d k) s
+  before-written s h =
       let e : 12 + (questionsEnd d - 12) ≡ questionsEnd d = omega arith in
       let first = splice-on 12 (questionsEnd d - 12) (headerBytes d) (questionBytes d) s (length-header d) (omega arith) in
       let second = splice-on (questionsEnd d) 11 (headerBytes d ++ questionBytes d) (optBytes k) s length-start h in
       ap (splice (questionsEnd d) 11 (optBytes k)) (first ∙ ap (λ (m : ℕ). splice 0 m (headerBytes d ++ questionBytes d) s) e)
-      ∙ (second ∙ ap (λ (x : List ℕ). splice 0 (questionsEnd d + 11) x s) (sym front-start))
+      ∙ (second ∙ ap (λ (x : List ℕ). splice 0 (questionsEnd d + 11) x s) (sym before-start))
 
 -- THE OPTIONS
 
@@ -76,15 +76,15 @@ options-next f at i s h = rows-next optionBytes 22 f at s i (λ j. length-option
 
 -- THE WHOLE
 
--- the front and then the options are the reply, and the bytes after it are as they were
+-- what stands before the options and then the options are the reply, and the bytes after it are as they were
 pub reply-written : (d : List ℕ) (os : List Outcome) (k : ℕ) (s : List ℕ) → 12 ≤ questionsEnd d → questionsEnd d ≤ length d → length os ≡ k
     → questionsEnd d + 11 + 22 * k ≤ length s
-    → splice (questionsEnd d + 11) (22 * k) (flat optionBytes os) (splice 0 (questionsEnd d + 11) (frontBytes d k) s)
+    → splice (questionsEnd d + 11) (22 * k) (flat optionBytes os) (splice 0 (questionsEnd d + 11) (beforeOptions d k) s)
     ≡ replyBytes d os ++ drop (questionsEnd d + 11 + 22 * k) s
-unfolding splice replyBytes frontBytes
+unfolding splice replyBytes beforeOptions
 reply-written d os k s from within e h =
-    let joined = splice-on (questionsEnd d + 11) (22 * k) (frontBytes d k) (flat optionBytes os) s (length-front d k from within) h in
-    let r : replyBytes d os ≡ frontBytes d k ++ flat optionBytes os =
+    let joined = splice-on (questionsEnd d + 11) (22 * k) (beforeOptions d k) (flat optionBytes os) s (length-before d k from within) h in
+    let r : replyBytes d os ≡ beforeOptions d k ++ flat optionBytes os =
     rw (
       e,
       append-assoc (headerBytes d) (questionBytes d ++ optBytes k) (flat optionBytes os),

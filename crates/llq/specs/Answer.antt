@@ -5,13 +5,12 @@ use mathlib.Core.Bool.{Bool, cond}
 use mathlib.Core.List.{List, [], _∷_, _++_}
 use lib.ListN.{length, drop, getD}
 use Rattle.model.specs.Lists.{upTo}
-use Rattle.model.specs.Query.{qdcount, questionsEnd, matched, question, llqAt, llqOption}
+use Rattle.model.specs.Query.{qdcount, questionsEnd, matched, question, llqOption}
 use Rattle.model.specs.Table.{Table, tableBytes, readTable}
 use Rattle.model.specs.Serve.{Sender, Outcome, serveOption}
-use Rattle.wire.specs.Records.{questionOf}
+use Rattle.wire.specs.Records.{questionOf, optionOf}
 use Rattle.wire.specs.declared.Question.{Question}
-use Rattle.query.specs.declared.OptionAt.{OptionAt}
-use Rattle.query.specs.Parts.{blankOption}
+use Rattle.wire.specs.declared.LlqOption.{LlqOption}
 use Rattle.llq.specs.declared.Served.{Served}
 use Rattle.model.specs.Reply.{headerBytes, questionBytes, optBytes, replyBytes, replyLength, mismatch}
 
@@ -33,11 +32,9 @@ QuestionsOf d n all =
     (i : ℕ) (e : Question) → i < n
     → (questionOf d (getD all i e) ≡ question d i) × (getD all i e .start + getD all i e .len ≤ length d) × (getD all i e .len ≤ 255)
 
--- the first n of an array are where the query's options start; an element is read by getD, whatever its default. Behind each place in the array lie 18 bytes.
-abbrev pub OptionsOf : List ℕ → ℕ → List OptionAt → Type 0
-OptionsOf d n all =
-    ((i : ℕ) (e : OptionAt) → i < n → llqAt d (getD all i e .start) ≡ llqOption d i)
-    × ((i : ℕ) → getD all i blankOption .start + 18 ≤ length d)
+-- the first n of an array are the query's options; an element is read by getD, whatever its default
+abbrev pub OptionsOf : List ℕ → ℕ → List LlqOption → Type 0
+OptionsOf d n all = (i : ℕ) (e : LlqOption) → i < n → optionOf (getD all i e) ≡ llqOption d i
 
 -- the table after the first i options
 unfoldable pub tableFrom : Sender → ℕ → List ℕ → Table → ℕ → Table
@@ -49,8 +46,8 @@ unfoldable pub outcomeFrom : Sender → ℕ → List ℕ → Table → ℕ → O
 outcomeFrom s r d t i = serveOption s r (question d i) (llqOption d i) (tableFrom s r d t i) .outcome
 
 -- the reply before its k options: header, questions, OPT record
-unfoldable pub frontBytes : List ℕ → ℕ → List ℕ
-frontBytes d k = headerBytes d ++ (questionBytes d ++ optBytes k)
+unfoldable pub beforeOptions : List ℕ → ℕ → List ℕ
+beforeOptions d k = headerBytes d ++ (questionBytes d ++ optBytes k)
 
 -- all options done; none where the count and length test fails
 abbrev pub tableDone : Sender → ℕ → List ℕ → Table → Table
@@ -64,6 +61,9 @@ pub record Answers (s : Sender) (r : ℕ) (d before after lent left : List ℕ) 
   pub table : after ≡ tableBytes (tableDone s r d (readTable before))
   pub reply : left ≡ replyBytes d (outcomesDone s r d (readTable before)) ++ drop (replyLength d) lent
 
--- a refused datagram has no reply
+-- a refused datagram has no reply, an answered one has its length
 abbrev pub refusedBy : ℕ → Served
 refusedBy k = record { number = k; length = 0 }
+
+abbrev pub answeredWith : ℕ → Served
+answeredWith k = record { number = 0; length = k }

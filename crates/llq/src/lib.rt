@@ -1,29 +1,29 @@
 // Document 01's three calls, for a host in C: making, ticking, serving. Every refusal is decided before the first byte is written.
 use entries::Sender;
-use query::OptionAt;
 use query::Query;
+use wire::HEADER_LEN;
 use wire::LlqNumber;
 use wire::LlqOption;
 use wire::MessageNumber;
+use wire::OPT_LEN;
+use wire::OPTION_LEN;
 use wire::Question;
 ghost use mathlib.Core.Path.{_≡_};
-ghost use mathlib.Core.Bool.{true, false, not};
+ghost use mathlib.Core.Bool.{true};
 ghost use Prim.Native.Nat.{_+_, _-_, _*_, _^_, _<_, _≤_};
 ghost use lib.ListN.{length};
 ghost use Rattle.model.specs.Lists.{flat, upTo};
 ghost use Rattle.model.specs.Numbers.{splice};
-ghost use Rattle.model.specs.Clock.{cycle, placeOf};
 ghost use Rattle.model.specs.Query.{messageNumber, flagRD};
-ghost use Rattle.model.specs.Table.{readTable, slotsIn};
+ghost use Rattle.model.specs.Table.{readTable};
 ghost use Rattle.model.specs.Serve.{serveOption};
-ghost use Rattle.model.specs.Reply.{optionBytes, replyBytes, replyLength};
-ghost use Rattle.model.specs.Calls.{tableLength, tableAfter, outcomes};
+ghost use Rattle.model.specs.Reply.{optionBytes, mismatch, replyLength};
 ghost use Rattle.model.specs.Meets.{MakeMeets, TickMeets, ServeMeets};
 ghost use Rattle.wire.specs.Records.{questionOf, optionOf};
-ghost use Rattle.query.specs.Whole.{Holds};
-ghost use Rattle.entries.specs.Reads.{addressOf, senderOf};
+ghost use Rattle.query.specs.Whole.{QueryOf};
+ghost use Rattle.entries.specs.Reads.{senderOf};
 ghost use Rattle.table.specs.Written.{WellFormed, Written};
-ghost use Rattle.llq.specs.Answer.{Measures, Matches, QuestionsOf, OptionsOf, tableFrom, outcomeFrom, frontBytes, Answers, refusedBy};
+ghost use Rattle.llq.specs.Answer.{Measures, Matches, QuestionsOf, OptionsOf, tableFrom, outcomeFrom, beforeOptions, Answers, refusedBy, answeredWith};
 
 // A datagram's answer: the refusal's number and 0, or 0 and the reply's length.
 #[repr(C)]
@@ -92,9 +92,9 @@ fn reply_length(d: &[u8], count: usize, end: usize, matched: bool) -> usize
     ensures { λ r. ⌜ r ≡ replyLength (now (d .entry)) ⌝ }
 {
     if !matched {
-        return end + 33;
+        return end + OPT_LEN + OPTION_LEN;
     }
-    end + 11 + 22 * count
+    end + OPT_LEN + OPTION_LEN * count
 }
 
 // A refused datagram has no reply.
@@ -102,6 +102,15 @@ fn refuse(number: u32) -> Served
     ensures { λ r. ⌜ r ≡ refusedBy number ⌝ }
 {
     Served { number, length: 0 }
+}
+
+// An answered one has its length.
+fn answered(len: usize) -> Served
+    requires { ⌜ len ≤ 1472 ⌝ }
+    ensures { λ r. ⌜ r ≡ answeredWith len ⌝ }
+{
+    let length = len as u32;
+    Served { number: 0, length }
 }
 
 // An option served on the table as it stands, and written at its place in the reply.
@@ -136,23 +145,30 @@ fn serve_each(
     n: usize,
     end: usize,
     questions: [Question; 8],
-    options: [OptionAt; 8],
+    options: [LlqOption; 8],
 )
     requires { ⌜ WellFormed (now t) × (n ≤ 8) × QuestionsOf (now d) n questions × OptionsOf (now d) n options × (end + 11 + 22 * n ≤ length (now reply)) ⌝ }
     ensures { λ _. ⌜ Written (now (t .exit)) (tableFrom (senderOf s) r (now (d .entry)) (readTable (now (t .entry))) n) × (now (reply .exit) ≡ splice (end + 11) (22 * n) (flat optionBytes (upTo n (outcomeFrom (senderOf s) r (now (d .entry)) (readTable (now (t .entry)))))) (now (reply .entry))) ⌝ }
 {
-    let at = end + 11;
+    let at = end + OPT_LEN;
     let mut i: usize = 0;
     while i < n {
-        let place = options[i];
-        let o = wire::option_of(d, place.start as usize);
-        serve_one(t, reply, at + 22 * i, s, r, d, questions[i], o);
+        serve_one(
+            t,
+            reply,
+            at + OPTION_LEN * i,
+            s,
+            r,
+            d,
+            questions[i],
+            options[i],
+        );
         i += 1;
     }
 }
 
 // The header, the questions as received, and the OPT record of k options.
-fn put_front(
+fn put_before_options(
     reply: &mut [u8],
     d: &[u8],
     number: MessageNumber,
@@ -162,16 +178,16 @@ fn put_front(
     k: u16,
 )
     requires { ⌜ (number .0 ≡ messageNumber (now d)) × (desired ≡ flagRD (now d)) × Measures (now d) count end × (k ≤ 8) × (end + 11 ≤ length (now reply)) ⌝ }
-    ensures { λ _. ⌜ now (reply .exit) ≡ splice 0 (end + 11) (frontBytes (now (d .entry)) k) (now (reply .entry)) ⌝ }
+    ensures { λ _. ⌜ now (reply .exit) ≡ splice 0 (end + 11) (beforeOptions (now (d .entry)) k) (now (reply .entry)) ⌝ }
 {
     wire::write::put_header(reply, number, desired, count as u16);
-    octets::copy(reply, 12, d, 12, end - 12);
+    octets::copy(reply, HEADER_LEN, d, HEADER_LEN, end - HEADER_LEN);
     wire::write::put_opt(reply, end, k);
 }
 
-// As many options as questions: each is served. Otherwise none is, and the reply has one: opcode 1, error 3, number 0, lease 0.
+// As many options as questions: each is served.
 fn answer(t: &mut [u8], reply: &mut [u8], d: &[u8], s: Sender, r: u64, q: Query)
-    requires { ⌜ WellFormed (now t) × Holds (now d) q × (replyLength (now d) ≤ length (now reply)) ⌝ }
+    requires { ⌜ WellFormed (now t) × QueryOf (now d) q × (q .matched ≡ true) × (replyLength (now d) ≤ length (now reply)) ⌝ }
     ensures { λ _. ⌜ Answers (senderOf s) r (now (d .entry)) (now (t .entry)) (now (t .exit)) (now (reply .entry)) (now (reply .exit)) ⌝ }
 {
     let number = q.number;
@@ -179,13 +195,24 @@ fn answer(t: &mut [u8], reply: &mut [u8], d: &[u8], s: Sender, r: u64, q: Query)
     let options = q.options;
     let count = q.count;
     let end = q.end;
-    if q.matched {
-        put_front(reply, d, number, q.desired, count, end, count as u16);
-        serve_each(t, reply, d, s, r, count, end, questions, options);
-    } else {
-        put_front(reply, d, number, q.desired, count, end, 1);
-        wire::write::put_option(reply, end + 11, 1, 3, LlqNumber(0), 0);
-    }
+    put_before_options(reply, d, number, q.desired, count, end, count as u16);
+    serve_each(t, reply, d, s, r, count, end, questions, options);
+}
+
+// The count and length test fails: no option is served, and the reply has one: opcode 1, error 3, number 0, lease 0.
+fn answer_mismatch(
+    reply: &mut [u8],
+    d: &[u8],
+    number: MessageNumber,
+    desired: u8,
+    count: usize,
+    end: usize,
+)
+    requires { ⌜ (number .0 ≡ messageNumber (now d)) × (desired ≡ flagRD (now d)) × Measures (now d) count end × (end + 33 ≤ length (now reply)) ⌝ }
+    ensures { λ _. ⌜ now (reply .exit) ≡ splice (end + 11) 22 (optionBytes mismatch) (splice 0 (end + 11) (beforeOptions (now (d .entry)) 1) (now (reply .entry))) ⌝ }
+{
+    put_before_options(reply, d, number, desired, count, end, 1);
+    wire::write::put_option(reply, end + OPT_LEN, 1, 3, LlqNumber(0), 0);
 }
 
 #[no_mangle]
@@ -223,9 +250,11 @@ pub extern "C" fn llq_serve(
     }
     let s = Sender { high, low, port };
     table::move_on(t, clock::place(week, second));
-    answer(t, reply, datagram, s, random, q);
-    Served {
-        number: 0,
-        length: len as u32,
+    if !q.matched {
+        let number = q.number;
+        answer_mismatch(reply, datagram, number, q.desired, q.count, q.end);
+        return answered(len);
     }
+    answer(t, reply, datagram, s, random, q);
+    answered(len)
 }

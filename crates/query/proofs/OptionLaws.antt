@@ -1,58 +1,23 @@
 -- Laws of the options that a loop passes, one after the other. Assumes nothing.
-use Prim.Native.Nat.{ℕ, zero, suc, _+_, _-_, _≤_, _<_}
+use Prim.Native.Nat.{ℕ, suc, _+_, _-_, _≤_, _<_}
 use mathlib.Core.Path.{_≡_, refl, sym, ap, _∙_}
 use mathlib.Core.List.{List, [], _∷_, _++_, map, append-assoc, append-nil, map-append}
-use mathlib.Core.Bool.{Bool, true, false, cond, and-true, and-false}
+use mathlib.Core.Bool.{Bool, true, false, and-true, and-false}
 use native.Mathlib.Omega.{arith}
-use lib.ListN.{length, getD, set, take, length-append}
-use lib.Dec.{eqb, leb}
-use borrow.Author.Tests.{eq-eqb, ne-eqb, lt-leb, leb-true, eqb-true}
+use lib.ListN.{length, set, take, length-append}
+use lib.Dec.{eqb}
+use borrow.Author.Tests.{eq-eqb, ne-eqb, lt-leb}
 use Rattle.model.specs.Lists.{every, keep}
 use Rattle.model.specs.Numbers.{bigEndian}
 use Rattle.model.specs.Query.{EdnsOption, goodOption, optionAt, optionEnd, optionsFill, optionsFrom}
-use Rattle.model.proofs.ListLaws.{never, and-both, every-nil, every-snoc, every-at, length-map}
-use Rattle.wire.specs.Records.{padded}
+use Rattle.model.proofs.ListLaws.{never, every-nil, every-snoc, length-map}
+use Rattle.wire.specs.Records.{padded, optionRecord}
+use Rattle.wire.specs.declared.LlqOption.{LlqOption}
 use Rattle.wire.proofs.Pad.{keep-more, keep-full}
-use Rattle.query.specs.declared.OptionAt.{OptionAt}
-use Rattle.query.specs.Parts.{optionStart, blankOption, isLlq, isSized, llqFrom, firstEight, OptionsRead}
-
--- WHERE OPTIONS END
-
--- an option that is read ends within the datagram
-module _ (d : List ℕ) where
-  abbrev endsWithin : EdnsOption → Bool
-  endsWithin o = leb (o .start + o .size) (length d)
-
-  one-within : (at : ℕ) → goodOption d at ≡ true → endsWithin (optionAt d at) ≡ true
-  unfolding goodOption optionAt
-  one-within at e = e
-
-  all-within : (k at : ℕ) → every endsWithin (keep isLlq (optionsFrom k d at)) ≡ true
-  unfolding optionsFrom keep every
-  all-within zero at = refl
-  all-within (suc k) at = go (goodOption d at) refl (all-within k (optionEnd d at))
-    where
-      kept : (b : Bool) (o : EdnsOption) (os : List EdnsOption) → endsWithin o ≡ true → every endsWithin os ≡ true → every endsWithin (cond b (o ∷ os) os) ≡ true
-      kept true o os e f = and-both (endsWithin o) (every endsWithin os) e f
-      kept false o os e f = f
-
-      go : (v : Bool) → goodOption d at ≡ v → every endsWithin (keep isLlq (optionsFrom k d (optionEnd d at))) ≡ true
-          → every endsWithin (keep isLlq (cond v (optionAt d at ∷ optionsFrom k d (optionEnd d at)) [])) ≡ true
-      go true e f = kept (isLlq (optionAt d at)) (optionAt d at) (keep isLlq (optionsFrom k d (optionEnd d at))) (one-within at e) f
-      go false e f = refl
-
-  -- one of code 1 and length 18 has its 18 bytes
-  pub whole-body : (first i : ℕ) (o : EdnsOption) → every isSized (llqFrom d first) ≡ true → i < length (llqFrom d first)
-      → getD (llqFrom d first) i o .start + 18 ≤ length d
-  whole-body first i o s l =
-      let e : getD (llqFrom d first) i o .size ≡ 18 = eqb-true _ 18 (every-at isSized (llqFrom d first) i o s l) in
-      let w = leb-true (getD (llqFrom d first) i o .start + getD (llqFrom d first) i o .size) (length d)
-      (every-at endsWithin (llqFrom d first) i o (all-within (suc (length d)) first) l) in omega arith
-
--- THE LOOP
+use Rattle.query.specs.Parts.{blankOption, isLlq, isSized, llqFrom, firstEight, OptionsRead}
 
 -- what the loop knows at a place: the options of code 1 that it passed, and that the rest is read from there, with turns enough
-pub record Passed (d : List ℕ) (first at count : ℕ) (sized : Bool) (all : List OptionAt) : Type 0 where
+pub record Passed (d : List ℕ) (first at count : ℕ) (sized : Bool) (all : List LlqOption) : Type 0 where
   pub turns : ℕ
   pub passed : List EdnsOption
   pub within : at ≤ length d
@@ -62,9 +27,9 @@ pub record Passed (d : List ℕ) (first at count : ℕ) (sized : Bool) (all : Li
   pub list : llqFrom d first ≡ passed ++ keep isLlq (optionsFrom turns d at)
   pub counted : count ≡ length passed
   pub fitted : sized ≡ every isSized passed
-  pub stored : sized ≡ true → all ≡ firstEight passed
+  pub stored : sized ≡ true → all ≡ firstEight d passed
 
-pub passed-none : (d : List ℕ) (first : ℕ) (all : List OptionAt) → first ≤ length d → all ≡ firstEight [] → Passed d first first 0 true all
+pub passed-none : (d : List ℕ) (first : ℕ) (all : List LlqOption) → first ≤ length d → all ≡ firstEight d [] → Passed d first first 0 true all
 passed-none d first all h e =
     record {
       turns = suc (length d);
@@ -79,7 +44,7 @@ passed-none d first all h e =
       stored = λ z. e;
     }
 
-module _ (d : List ℕ) (first at count : ℕ) (sized : Bool) (all : List OptionAt) (p : Passed d first at count sized all) where
+module _ (d : List ℕ) (first at count : ℕ) (sized : Bool) (all : List LlqOption) (p : Passed d first at count sized all) where
   -- a whole option: the rest is read from its end
   module _ (l : at < length d) (g : goodOption d at ≡ true) where
     more : p .turns ≡ suc (p .turns - 1)
@@ -125,8 +90,8 @@ module _ (d : List ℕ) (first at count : ℕ) (sized : Bool) (all : List Option
       one-more : count + 1 ≡ length (p .passed ++ (optionAt d at ∷ []))
       one-more = let a = p .counted in rw length-append (omega arith)
 
-      pass-llq : (sized' : Bool) (all' : List OptionAt) → bigEndian d at 2 ≡ 1 → sized' ≡ every isSized (p .passed ++ (optionAt d at ∷ []))
-          → (sized' ≡ true → all' ≡ firstEight (p .passed ++ (optionAt d at ∷ []))) → Passed d first (optionEnd d at) (count + 1) sized' all'
+      pass-llq : (sized' : Bool) (all' : List LlqOption) → bigEndian d at 2 ≡ 1 → sized' ≡ every isSized (p .passed ++ (optionAt d at ∷ []))
+          → (sized' ≡ true → all' ≡ firstEight d (p .passed ++ (optionAt d at ∷ []))) → Passed d first (optionEnd d at) (count + 1) sized' all'
       pass-llq sized' all' e f s =
           let a = p .enough in let b = p .few in
           record {
@@ -146,20 +111,23 @@ module _ (d : List ℕ) (first at count : ℕ) (sized : Bool) (all : List Option
       unfolding optionAt
       same-sized e = p .fitted ∙ sym (every-snoc isSized (p .passed) (optionAt d at) ∙ rw (eq-eqb (bigEndian d (at + 2) 2) 18 e, and-true))
 
-      eight-next : firstEight (p .passed ++ (optionAt d at ∷ [])) ≡ padded 8 blankOption (take 8 (map optionStart (p .passed) ++ (optionStart (optionAt d at) ∷ [])))
-      eight-next = ap (λ (l : List OptionAt). padded 8 blankOption (take 8 l)) (map-append optionStart (p .passed) (optionAt d at ∷ []))
+      abbrev value : EdnsOption → LlqOption
+      value o = optionRecord d (o .start)
 
-      length-places : length (map optionStart (p .passed)) ≡ count
-      length-places = length-map optionStart (p .passed) ∙ sym (p .counted)
+      eight-next : firstEight d (p .passed ++ (optionAt d at ∷ [])) ≡ padded 8 blankOption (take 8 (map value (p .passed) ++ (value (optionAt d at) ∷ [])))
+      eight-next = ap (λ (l : List LlqOption). padded 8 blankOption (take 8 l)) (map-append value (p .passed) (optionAt d at ∷ []))
+
+      length-values : length (map value (p .passed)) ≡ count
+      length-values = length-map value (p .passed) ∙ sym (p .counted)
 
       -- one of length 18, among the first eight
       pub pass-stored : bigEndian d at 2 ≡ 1 → bigEndian d (at + 2) 2 ≡ 18 → count < 8
-          → Passed d first (optionEnd d at) (count + 1) sized (set all count (record { start = at + 4 }))
+          → Passed d first (optionEnd d at) (count + 1) sized (set all count (optionRecord d (at + 4)))
       unfolding optionAt
       pass-stored e f h =
-          pass-llq sized (set all count (record { start = at + 4 })) e (same-sized f)
+          pass-llq sized (set all count (optionRecord d (at + 4))) e (same-sized f)
           (λ z.
-          rw (p .stored z) (keep-more 8 blankOption (map optionStart (p .passed)) (optionStart (optionAt d at)) count length-places h) ∙ sym eight-next)
+          rw (p .stored z) (keep-more 8 blankOption (map value (p .passed)) (value (optionAt d at)) count length-values h) ∙ sym eight-next)
 
       -- one of length 18, beyond the first eight
       pub pass-beyond : bigEndian d at 2 ≡ 1 → bigEndian d (at + 2) 2 ≡ 18 → 8 ≤ count → Passed d first (optionEnd d at) (count + 1) sized all
@@ -167,7 +135,7 @@ module _ (d : List ℕ) (first at count : ℕ) (sized : Bool) (all : List Option
           pass-llq sized all e (same-sized f)
           (λ z.
           p .stored z
-          ∙ ap (padded 8 blankOption) (keep-full 8 (map optionStart (p .passed)) (optionStart (optionAt d at)) (rw length-places h)) ∙ sym eight-next)
+          ∙ ap (padded 8 blankOption) (keep-full 8 (map value (p .passed)) (value (optionAt d at)) (rw length-values h)) ∙ sym eight-next)
 
       -- one of another length
       pub pass-unfit : bigEndian d at 2 ≡ 1 → (bigEndian d (at + 2) 2 ≡ 18 → ⊥) → Passed d first (optionEnd d at) (count + 1) false all

@@ -1,194 +1,170 @@
--- The way through a query, from what each part was read as. Assumes nothing.
-use Prim.Native.Nat.{ℕ, suc, _+_, _%_, _≤_, _<_}
+-- The parts of a query make the whole: the lowest refusal is the model's, and where there is none the query is the datagram's. Assumes nothing.
+use Prim.Native.Nat.{ℕ, zero, suc, _<_}
 use mathlib.Core.Path.{_≡_, refl, sym, ap, _∙_}
-use mathlib.Core.List.{List, map}
-use mathlib.Core.Bool.{Bool, true, false, _&&_}
+use mathlib.Core.List.{List, [], _∷_, map}
+use mathlib.Core.Bool.{Bool, true, false, not}
 use native.Mathlib.Omega.{arith}
 use lib.ListN.{length, getD, take}
 use lib.Seq.{take-all}
-use lib.Dec.{eqb, leb, ltb}
-use borrow.Author.Tests.{lt-ltb, le-ltb, ltb-true, ltb-false, leb-true, eq-eqb, ne-eqb, eqb-true}
+use lib.Dec.{eqb}
+use borrow.Author.Tests.{ne-eqb, eqb-true}
 use Rattle.model.specs.Lists.{every}
-use Rattle.model.specs.Numbers.{bigEndian}
-use Rattle.model.specs.Query.{wrongSize, qdcount, goodHeader, goodQuestions, questionsEnd, goodOpt, EdnsOption, llqOptions, llqAt, llqOption, matched}
+use Rattle.model.specs.Query.{wrongSize, qdcount, goodHeader, goodQuestions, questionsEnd, optData, optionsFill, goodOpt, EdnsOption, llqOptions, llqAt, llqOption, matched}
 use Rattle.model.specs.Calls.{refusal}
 use Rattle.model.proofs.ListLaws.{and-left, and-right, length-map, getD-map}
-use Rattle.model.proofs.QueryLaws.{header-facts, start-min}
-use Rattle.wire.specs.Records.{padded}
-use Rattle.wire.proofs.Pad.{pad-at, pad-past}
-use Rattle.query.specs.declared.Header.{Header}
-use Rattle.query.specs.declared.OptionAt.{OptionAt}
-use Rattle.query.specs.declared.Options.{Options}
+use Rattle.model.proofs.QueryLaws.{start-min}
+use Rattle.wire.specs.Records.{padded, optionOf, optionRecord}
+use Rattle.wire.specs.Read.{goodOptRecord}
+use Rattle.wire.specs.declared.LlqOption.{LlqOption}
+use Rattle.wire.proofs.Pad.{pad-at}
+use Rattle.query.specs.declared.QueryHeader.{QueryHeader}
 use Rattle.query.specs.declared.Questions.{Questions}
-use Rattle.query.specs.Parts.{headerRecord, goodFields, goodStart, optionStart, blankOption, isSized, llqFrom, QuestionsRead, OptionsRead}
-use Rattle.query.specs.Whole.{queryRefusal, refusedWith, Reads}
-use Rattle.query.proofs.HeaderLaws.{fields-good}
-use Rattle.query.proofs.OptionLaws.{whole-body}
+use Rattle.query.specs.declared.OptFound.{OptFound}
+use Rattle.query.specs.declared.Options.{Options}
+use Rattle.query.specs.Parts.{headerRefusal, QueryHeaderOf, QuestionsRead, OptFoundAt, blankOption, isSized, llqFrom, OptionsRead}
+use Rattle.query.specs.Whole.{queryRefusal, lowestRefusal, matchOf, QueryOf, Reads}
 use Rattle.query.proofs.QuestionLaws as questions
 
--- an OPT record that starts well has its 11 bytes
-pub start-within : (d : List ℕ) (at : ℕ) → goodStart d at ≡ true → at + 11 ≤ length d
-start-within d at e =
-    leb-true (at + 11) (length d)
-    (first (leb (at + 11) (length d)) (eqb (getD d at 0) 0) (eqb (bigEndian d (at + 1) 2) 41) (eqb (getD d (at + 6) 0) 0)
-    (eqb (at + 11 + bigEndian d (at + 9) 2) (length d)) e)
+-- THE LADDER
+
+-- the header's refusal is the whole's
+header-first : (w g : Bool) (k : ℕ) (rest : List (ℕ × Bool)) → refusal ((3, w) ∷ (4, not g) ∷ []) ≡ suc k → suc k ≡ refusal ((3, w) ∷ (4, not g) ∷ rest)
+unfolding refusal
+header-first true g k rest e = sym e
+header-first false false k rest e = sym e
+header-first false true k rest e = absurd (omega arith)
+
+header-passes : (w g : Bool) → refusal ((3, w) ∷ (4, not g) ∷ []) ≡ 0 → (w ≡ false) × (g ≡ true)
+unfolding refusal
+header-passes true g e = absurd (omega arith)
+header-passes false false e = absurd (omega arith)
+header-passes false true e = (refl, refl)
+
+-- where it refuses, it is the lowest
+header-lowest : (k : ℕ) (a b c : Bool) (n : ℕ) → lowestRefusal (suc k) a b c n ≡ suc k
+unfolding lowestRefusal refusal
+header-lowest k a b c n = rw (ne-eqb (suc k) 0 (λ e. omega arith))
+
+-- no refusal: every part passes
+all-pass : (k : ℕ) (a b c : Bool) (n : ℕ) → lowestRefusal k a b c n ≡ 0 → (k ≡ 0) × (a ≡ true) × (b ≡ true) × (c ≡ true)
+unfolding lowestRefusal refusal
+all-pass (suc k) a b c n e = let z = header-lowest k a b c n in absurd (omega arith)
+all-pass zero false b c n e = absurd (omega arith)
+all-pass zero true false c n e = absurd (omega arith)
+all-pass zero true true false n e = absurd (omega arith)
+all-pass zero true true true n e = (refl, refl, refl, refl)
+
+-- THE PARTS
+
+module _ (d : List ℕ) (h : QueryHeader) (he : QueryHeaderOf d h) (q : Questions) (qe : QuestionsRead d (h .count) q) (x : OptFound) (xe : OptFoundAt d (q .next .at) x)
+    (o : Options) (oe : OptionsRead d (x .first .at) o)
   where
-    first : (a b c x y : Bool) → a && b && c && x && y ≡ true → a ≡ true
-    first true b c x y z = refl
-    first false b c x y z = z
+    -- the header passes
+    module _ (hz : h .refused ≡ 0) where
+      passes : (wrongSize d ≡ false) × (goodHeader d ≡ true)
+      unfolding headerRefusal
+      passes = header-passes (wrongSize d) (goodHeader d) (sym (he .refused) ∙ hz)
 
--- a refusal holds no query
-refused : (d : List ℕ) (k : ℕ) → suc k ≡ queryRefusal d → Reads d (refusedWith (suc k))
-refused d k e = record { refused = e; holds = λ z. absurd (omega arith) }
+      asked : h .count ≡ qdcount d
+      asked = he .count hz
 
-pub short : (d : List ℕ) → length d < 12 → Reads d (refusedWith 3)
-unfolding queryRefusal refusal
-short d h = refused d 2 (rw (lt-ltb (length d) 12 h))
+      questions-good : q .good ≡ goodQuestions d (qdcount d)
+      questions-good = rw asked at (qe .good)
 
-pub long : (d : List ℕ) → 12 ≤ length d → 1472 < length d → Reads d (refusedWith 3)
-unfolding queryRefusal refusal
-long d l h = refused d 2 (rw (le-ltb (length d) 12 l, lt-ltb 1472 (length d) h))
+      -- the questions are good
+      module _ (qg : q .good ≡ true) where
+        ends : q .next .at ≡ questionsEnd d
+        ends = rw asked at (qe .next qg)
 
-module _ (d : List ℕ) (lo : 12 ≤ length d) (hi : length d ≤ 1472) (h : Header) (he : h ≡ headerRecord d) where
-  size : wrongSize d ≡ false
-  size = rw (le-ltb (length d) 12 lo, le-ltb 1472 (length d) hi)
+        opt-record-good : x .good ≡ goodOptRecord d (questionsEnd d)
+        opt-record-good = rw ends at (xe .good)
 
-  header : (v : Bool) → goodFields h ≡ v → goodHeader d ≡ v
-  header v e = sym (fields-good d) ∙ ap goodFields (sym he) ∙ e
+        -- an OPT record stands behind them
+        module _ (xg : x .good ≡ true) where
+          first : x .first .at ≡ optData (questionsEnd d)
+          first = xe .first xg ∙ ap optData ends
 
-  asked : h .qdcount ≡ qdcount d
-  asked = ap (λ (h : Header). h .qdcount) he
+          options-fill : o .fill ≡ optionsFill (suc (length d)) d (optData (questionsEnd d))
+          options-fill = rw first at (oe .fill)
 
-  -- a good header tells of 1 to 8 questions
-  pub asked-few : goodFields h ≡ true → (1 ≤ h .qdcount) × (h .qdcount ≤ 8)
-  asked-few e = let f = header-facts d (header true e) in rw asked (f .some, f .few)
-
-  pub bad-header : goodFields h ≡ false → Reads d (refusedWith 4)
-  unfolding queryRefusal refusal
-  bad-header e = refused d 3 (rw (size, header false e))
-
-  module _ (hg : goodFields h ≡ true) (q : Questions) (qe : QuestionsRead d (h .qdcount) q) where
-    questions-good : (v : Bool) → q .good ≡ v → goodQuestions d (qdcount d) ≡ v
-    questions-good v e = rw asked at (sym (qe .good) ∙ e)
-
-    pub bad-question : q .good ≡ false → Reads d (refusedWith 5)
-    unfolding queryRefusal refusal
-    bad-question e = refused d 4 (rw (size, header true hg, questions-good false e))
-
-    module _ (qg : q .good ≡ true) where
-      abbrev at : ℕ
-      at = q .end
-
-      good : goodQuestions d (qdcount d) ≡ true
-      good = questions-good true qg
-
-      ends : at ≡ questionsEnd d
-      ends = rw asked at (qe .end qg)
-
-      pub bad-opt : goodStart d at ≡ false → Reads d (refusedWith 6)
-      unfolding queryRefusal refusal goodOpt
-      bad-opt e = refused d 5 (rw (size, header true hg, good, ← ends, e))
-
-      module _ (sg : goodStart d at ≡ true) (o : Options) (oe : OptionsRead d (at + 11) o) where
-        pub bad-fill : o .fill ≡ false → Reads d (refusedWith 6)
-        unfolding queryRefusal refusal goodOpt
-        bad-fill e = refused d 5 (rw (size, header true hg, good, ← ends, sg, ← (oe .fill), e))
-
-        module _ (fg : o .fill ≡ true) where
-          opt : goodOpt d (questionsEnd d) ≡ true
+          opt-good : (v : Bool) → o .fill ≡ v → goodOpt d (questionsEnd d) ≡ v
           unfolding goodOpt
-          opt = rw (← ends, sg, ← (oe .fill), fg)
+          opt-good v e = rw (← opt-record-good, xg, ← options-fill) e
 
-          options : llqOptions d ≡ llqFrom d (at + 11)
-          unfolding llqOptions
-          options = rw ends
+          -- its options fill the datagram
+          module _ (fg : o .fill ≡ true) where
+            options : llqOptions d ≡ llqFrom d (x .first .at)
+            unfolding llqOptions
+            options = rw first
 
-          counted : o .count ≡ length (llqOptions d)
-          counted = rw options (oe .count fg)
+            counted : o .count ≡ length (llqOptions d)
+            counted = rw options (oe .count fg)
 
-          fitted : o .sized ≡ every isSized (llqOptions d)
-          fitted = rw options (oe .sized fg)
+            fitted : o .sized ≡ every isSized (llqOptions d)
+            fitted = rw options (oe .sized fg)
 
-          pub no-llq : o .count ≡ 0 → Reads d (refusedWith 7)
-          unfolding queryRefusal refusal
-          no-llq e = refused d 6 (rw (size, header true hg, good, opt, ← counted, eq-eqb (o .count) 0 e))
+            match-is : matchOf (o .count) (h .count) (o .sized) ≡ matched d
+            unfolding matched
+            match-is = rw (counted, fitted, asked)
 
-          match-is : eqb (o .count) (h .qdcount) && o .sized ≡ matched d
-          unfolding matched
-          match-is = rw (counted, fitted, asked)
+            -- option i, where the options matched
+            option-at : o .count ≡ h .count → o .sized ≡ true → (i : ℕ) (e : LlqOption) → i < h .count → optionOf (getD (o .all) i e) ≡ llqOption d i
+            unfolding llqAt
+            option-at c s i e l =
+                let f = he .atMost in
+                let n : length (llqOptions d) ≡ h .count = sym counted ∙ c in
+                let value : EdnsOption → LlqOption = λ x. optionRecord d (x .start) in
+                let a : o .all ≡ padded 8 blankOption (take 8 (map value (llqOptions d))) = rw options (oe .all fg s) in
+                let k : length (map value (llqOptions d)) ≡ h .count = length-map value (llqOptions d) ∙ n in
+                let t : take 8 (map value (llqOptions d)) ≡ map value (llqOptions d) = take-all 8 (map value (llqOptions d)) (omega arith) in
+                let g : getD (o .all) i e ≡ value (getD (llqOptions d) i (record { code = 0; start = 0; size = 0 })) =
+                rw (a, t) (pad-at 8 blankOption (map value (llqOptions d)) i e (omega arith)
+                ∙ getD-map value (llqOptions d) i (record { code = 0; start = 0; size = 0 }) e (omega arith)) in
+                ap optionOf g
 
-          -- the options where they matched
-          module _ (c : o .count ≡ h .qdcount) (s : o .sized ≡ true) where
-            abbrev none : EdnsOption
-            none = record { code = 0; start = 0; size = 0 }
+            pub holds : QueryOf d (record { number = h .number; desired = h .desired; count = h .count; questions = q .all; options = o .all; end = q .next .at; matched = matchOf (o .count) (h .count) (o .sized) })
+            holds =
+                let g = sym (qe .good) ∙ qg in
+                let a = qe .all qg in
+                let w = xe .within in
+                let f = xe .first xg in
+                record {
+                  number = he .number hz;
+                  desired = he .desired hz;
+                  count = asked;
+                  atLeast = he .atLeast hz;
+                  atMost = he .atMost;
+                  question = λ i e l. rw a (questions.holds-question d (h .count) g i e l);
+                  placed = λ i e l. rw a (questions.holds-placed d (h .count) g i e l);
+                  len = λ i e l. rw a (questions.holds-len d (h .count) g i e l);
+                  end = ends;
+                  from = rw (qe .next qg) (start-min d (h .count));
+                  within = omega arith;
+                  matched = match-is;
+                  option = λ y i e l.
+                      option-at (eqb-true (o .count) (h .count) (and-left (eqb (o .count) (h .count)) (o .sized) y))
+                      (and-right (eqb (o .count) (h .count)) (o .sized) y) i e l;
+                }
 
-            abbrev places : List OptionAt
-            places = map optionStart (llqOptions d)
+    -- each rung of the ladder
+    refused-is : (k : ℕ) → h .refused ≡ k → (a : Bool) → q .good ≡ a → (b : Bool) → x .good ≡ b → (c : Bool) → o .fill ≡ c
+        → lowestRefusal k a b c (o .count) ≡ queryRefusal d
+    unfolding lowestRefusal queryRefusal refusal headerRefusal goodOpt
+    refused-is (suc k) e a ea b eb c ec =
+        header-lowest k a b c (o .count) ∙ header-first (wrongSize d) (goodHeader d) k
+        ((5, not (goodQuestions d (qdcount d))) ∷ (6, not (goodOpt d (questionsEnd d))) ∷ (7, eqb (length (llqOptions d)) 0) ∷ [])
+        (sym (he .refused) ∙ e)
+    refused-is zero e false ea b eb c ec = let p = passes e in rw (p .0, p .1, ← (questions-good e), ea)
+    refused-is zero e true ea false eb c ec = let p = passes e in rw (p .0, p .1, ← (questions-good e), ea, ← (opt-record-good e ea), eb)
+    refused-is zero e true ea true eb false ec = let p = passes e in rw (p .0, p .1, ← (questions-good e), ea, opt-good e ea eb false ec)
+    refused-is zero e true ea true eb true ec =
+        let p = passes e in rw (p .0, p .1, ← (questions-good e), ea, opt-good e ea eb true ec, ← (counted e ea eb ec))
 
-            many : length (llqOptions d) ≡ h .qdcount
-            many = sym counted ∙ c
-
-            filled : o .all ≡ padded 8 blankOption places
-            filled =
-                let f = asked-few hg in
-                let k : length places ≡ h .qdcount = length-map optionStart (llqOptions d) ∙ many in
-                let a : o .all ≡ padded 8 blankOption (take 8 places) = rw options (oe .all fg s) in
-                a ∙ ap (padded 8 blankOption) (take-all 8 places (omega arith))
-
-            starts : (i : ℕ) (e : OptionAt) → i < h .qdcount → getD (o .all) i e .start ≡ getD (llqOptions d) i none .start
-            starts i e l =
-                let n = many in
-                let k = length-map optionStart (llqOptions d) in
-                ap (λ (x : OptionAt). x .start) (rw filled (pad-at 8 blankOption places i e (omega arith) ∙ getD-map optionStart (llqOptions d) i none e (omega arith)))
-
-            at-option : (i : ℕ) (e : OptionAt) → i < h .qdcount → llqAt d (getD (o .all) i e .start) ≡ llqOption d i
-            at-option i e l = ap (llqAt d) (starts i e l)
-
-            -- 18 bytes behind each place, and behind place 0, which fills the array up
-            at-body : (i : ℕ) → getD (o .all) i blankOption .start + 18 ≤ length d
-            at-body i = go (ltb i (h .qdcount)) refl
-              where
-                go : (v : Bool) → ltb i (h .qdcount) ≡ v → getD (o .all) i blankOption .start + 18 ≤ length d
-                go true z =
-                    let l = ltb-true i (h .qdcount) z in
-                    let n = many in
-                    rw (starts i blankOption l, options) (whole-body d (at + 11) i none (sym (oe .sized fg) ∙ s) (rw options at (rw (sym n) at l)))
-                go false z =
-                    let l = ltb-false i (h .qdcount) z in
-                    let n = many in
-                    let k = length-map optionStart (llqOptions d) in
-                    let w = start-within d at sg in
-                    let m = start-min d (h .qdcount) in
-                    rw (filled, pad-past 8 blankOption places i (omega arith)) (omega (arith, qe .end qg))
-
-          both : eqb (o .count) (h .qdcount) && o .sized ≡ true → (o .count ≡ h .qdcount) × (o .sized ≡ true)
-          both w = (eqb-true (o .count) (h .qdcount) (and-left (eqb (o .count) (h .qdcount)) (o .sized) w), and-right (eqb (o .count) (h .qdcount)) (o .sized) w)
-
-          pub taken : (m : Bool) → (o .count ≡ 0 → ⊥) → m ≡ eqb (o .count) (h .qdcount) && o .sized
-              → Reads d (record { refused = 0; query = record { number = h .number; desired = h .flags % 2; count = h .qdcount; questions = q .all; options = o .all; end = q .end; matched = m } })
-          unfolding queryRefusal refusal
-          taken m n me =
-              let f = asked-few hg in
-              let g = sym (qe .good) ∙ qg in
-              let a = qe .all qg in
-              let c : 0 ≡ queryRefusal d = rw (size, header true hg, good, opt, ← counted, ne-eqb (o .count) 0 n) in
-              record {
-                refused = c;
-                holds = λ z.
-                    record {
-                      number = ap (λ (h : Header). h .number .0) he;
-                      desired = ap (λ (h : Header). h .flags % 2) he;
-                      count = asked;
-                      atLeast = f .0;
-                      atMost = f .1;
-                      question = λ i e l. rw a (questions.holds-question d (h .qdcount) g i e l);
-                      placed = λ i e l. rw a (questions.holds-placed d (h .qdcount) g i e l);
-                      len = λ i e l. rw a (questions.holds-len d (h .qdcount) g i e l);
-                      end = ends;
-                      from = rw (qe .end qg) (start-min d (h .qdcount));
-                      within = start-within d at sg;
-                      matched = me ∙ match-is;
-                      option = λ y. let w = both (sym me ∙ y) in at-option (w .0) (w .1);
-                      whole = λ y. let w = both (sym me ∙ y) in at-body (w .0) (w .1);
-                    };
-              }
+    pub reads : (k : ℕ) (m : Bool) → k ≡ lowestRefusal (h .refused) (q .good) (x .good) (o .fill) (o .count) → m ≡ matchOf (o .count) (h .count) (o .sized)
+        → Reads d (record { refused = k; query = record { number = h .number; desired = h .desired; count = h .count; questions = q .all; options = o .all; end = q .next .at; matched = m } })
+    reads k m e f =
+        rw (e, f)
+        (record {
+          refused = refused-is (h .refused) refl (q .good) refl (x .good) refl (o .fill) refl;
+          query = λ z. let p = all-pass (h .refused) (q .good) (x .good) (o .fill) (o .count) z in holds (p .0) (p .1) (p .2) (p .3);
+        })

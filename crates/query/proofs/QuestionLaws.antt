@@ -13,7 +13,7 @@ use Rattle.model.proofs.ListLaws.{test, never, and-both, every-nil, every-next,
 use Rattle.model.proofs.NameLaws.{question-within}
 use Rattle.model.proofs.QueryLaws.{good-at}
 use Rattle.wire.specs.Records.{questionOf, padded, recordAt}
-use Rattle.wire.specs.Read.{readQuestion}
+use Rattle.wire.specs.Read.{cursor, readQuestion}
 use Rattle.wire.specs.declared.Cursor.{Cursor}
 use Rattle.wire.specs.declared.Question.{Question}
 use Rattle.wire.specs.declared.QuestionRead.the-variants.{Found}
@@ -63,9 +63,9 @@ module _ (d : List ℕ) where
     pub start : at ≡ questionStart d i
     pub stored : all ≡ firstQuestions d i
 
-  pub passed-none : (all : List Question) → all ≡ replicate 8 blankQuestion → Passed 0 12 all
-  passed-none all e =
-      record { good = good-none; start = sym start-first; stored = e ∙ sym (rw (upTo-none (recordOf d)) (pad-none 8 blankQuestion)) }
+  pub passed-none : (at : ℕ) (all : List Question) → at ≡ 12 → all ≡ replicate 8 blankQuestion → Passed 0 at all
+  passed-none at all f e =
+      record { good = good-none; start = f ∙ sym start-first; stored = e ∙ sym (rw (upTo-none (recordOf d)) (pad-none 8 blankQuestion)) }
 
   module _ (i at : ℕ) (all : List Question) (p : Passed i at all) where
     -- a good question: it is stored, and the loop goes on at its end
@@ -78,12 +78,12 @@ module _ (d : List ℕ) where
         }
 
     -- a bad one
-    pub read-bad : (m : ℕ) → i < m → goodQuestion d at ≡ false → QuestionsRead d m (record { all = all; end = 0; good = false })
-    read-bad m l b = record { good = sym (bad-at m i l (rw (p .start) at b)); end = λ z. never z refl; all = λ z. never z refl }
+    pub read-bad : (m : ℕ) → i < m → goodQuestion d at ≡ false → QuestionsRead d m (record { all = all; next = cursor at; good = false })
+    read-bad m l b = record { good = sym (bad-at m i l (rw (p .start) at b)); next = λ z. never z refl; all = λ z. never z refl }
 
     -- all m are read
-    pub read-end : (m : ℕ) → i ≡ m → QuestionsRead d m (record { all = all; end = at; good = true })
-    read-end m e = record { good = sym (rw e at (p .good)); end = λ z. rw e at (p .start); all = λ z. rw e at (p .stored) }
+    pub read-end : (m : ℕ) → i ≡ m → QuestionsRead d m (record { all = all; next = cursor at; good = true })
+    read-end m e = record { good = sym (rw e at (p .good)); next = λ z. rw e at (p .start); all = λ z. rw e at (p .stored) }
 
   -- question i in the array is the model's, and its name is of at most 255 bytes, in the datagram
   module _ (m : ℕ) (g : goodQuestions d m ≡ true) (i : ℕ) (e : Question) (l : i < m) where

@@ -1,38 +1,48 @@
 -- What the readers of a query's parts give, in the model's terms. Assumes nothing.
-use Prim.Native.Nat.{ℕ, suc, _+_, _/_, _%_}
+use Prim.Native.Nat.{ℕ, suc, _/_, _%_, _≤_}
 use mathlib.Core.Path.{_≡_}
-use mathlib.Core.Bool.{Bool, true, _&&_}
-use mathlib.Core.List.{List, map}
-use lib.ListN.{length, getD, take}
+use mathlib.Core.Bool.{Bool, true, not, _&&_}
+use mathlib.Core.List.{List, [], _∷_, map}
+use lib.ListN.{length, take}
 use lib.Dec.{eqb, leb}
 use Rattle.model.specs.Lists.{every, keep, upTo}
-use Rattle.model.specs.Numbers.{bigEndian}
-use Rattle.model.specs.Query.{questionStart, goodQuestions, EdnsOption, optionsFill, optionsFrom, optData}
-use Rattle.wire.specs.Records.{padded, recordAt}
+use Rattle.model.specs.Query.{wrongSize, messageNumber, flagRD, qdcount, goodHeader, questionStart, goodQuestions, EdnsOption, optionsFill, optionsFrom, optData}
+use Rattle.model.specs.Calls.{refusal}
+use Rattle.wire.specs.Records.{padded, recordAt, optionRecord}
+use Rattle.wire.specs.Read.{cursor, goodOptRecord}
+use Rattle.wire.specs.declared.Header.{Header}
 use Rattle.wire.specs.declared.Question.{Question}
-use Rattle.query.specs.declared.Header.{Header}
+use Rattle.wire.specs.declared.LlqOption.{LlqOption}
+use Rattle.query.specs.declared.QueryHeader.{QueryHeader}
 use Rattle.query.specs.declared.Questions.{Questions}
-use Rattle.query.specs.declared.OptionAt.{OptionAt}
+use Rattle.query.specs.declared.OptFound.{OptFound}
 use Rattle.query.specs.declared.Options.{Options}
 
 -- THE HEADER
-
-abbrev pub headerRecord : List ℕ → Header
-headerRecord d =
-    record {
-      number = record { 0 = bigEndian d 0 2 };
-      flags = getD d 2 0;
-      qdcount = bigEndian d 4 2;
-      ancount = bigEndian d 6 2;
-      nscount = bigEndian d 8 2;
-      arcount = bigEndian d 10 2;
-    }
 
 -- goodHeader of the model, of the fields
 abbrev pub goodFields : Header → Bool
 goodFields h =
     eqb (h .flags / 128 % 2) 0 && eqb (h .flags / 8 % 16) 0 && eqb (h .flags / 2 % 2) 0 && (leb 1 (h .qdcount) && leb (h .qdcount) 8)
     && eqb (h .ancount) 0 && eqb (h .nscount) 0 && eqb (h .arcount) 1
+
+abbrev pub refusedHeader : ℕ → QueryHeader
+refusedHeader k = record { refused = k; number = record { 0 = 0 }; desired = 0; count = 0; first = cursor 12 }
+
+-- refusals 3 and 4
+unfoldable pub headerRefusal : List ℕ → ℕ
+headerRefusal d = refusal ((3, wrongSize d) ∷ (4, not (goodHeader d)) ∷ [])
+
+-- the fields where it is not refused; in any case questions that can be read
+pub record QueryHeaderOf (d : List ℕ) (r : QueryHeader) : Type 0 where
+  pub refused : r .refused ≡ headerRefusal d
+  pub number : r .refused ≡ 0 → r .number .0 ≡ messageNumber d
+  pub desired : r .refused ≡ 0 → r .desired ≡ flagRD d
+  pub count : r .refused ≡ 0 → r .count ≡ qdcount d
+  pub atLeast : r .refused ≡ 0 → 1 ≤ r .count
+  pub atMost : r .count ≤ 8
+  pub short : 1 ≤ r .count → length d ≤ 1472
+  pub first : r .first .at ≡ 12
 
 -- QUESTIONS
 
@@ -49,24 +59,20 @@ firstQuestions d m = padded 8 blankQuestion (upTo m (recordOf d))
 
 pub record QuestionsRead (d : List ℕ) (m : ℕ) (r : Questions) : Type 0 where
   pub good : r .good ≡ goodQuestions d m
-  pub end : r .good ≡ true → r .end ≡ questionStart d m
+  pub next : r .good ≡ true → r .next .at ≡ questionStart d m
   pub all : r .good ≡ true → r .all ≡ firstQuestions d m
 
 -- THE OPT RECORD
 
--- goodOpt of the model, but for the options
-abbrev pub goodStart : List ℕ → ℕ → Bool
-goodStart d at =
-    leb (optData at) (length d) && eqb (getD d at 0) 0 && eqb (bigEndian d (at + 1) 2) 41 && eqb (getD d (at + 6) 0) 0
-    && eqb (optData at + bigEndian d (at + 9) 2) (length d)
+pub record OptFoundAt (d : List ℕ) (at : ℕ) (r : OptFound) : Type 0 where
+  pub good : r .good ≡ goodOptRecord d at
+  pub first : r .good ≡ true → r .first .at ≡ optData at
+  pub within : r .first .at ≤ length d
 
 -- OPTIONS
 
-abbrev pub optionStart : EdnsOption → OptionAt
-optionStart o = record { start = o .start }
-
-abbrev pub blankOption : OptionAt
-blankOption = record { start = 0 }
+abbrev pub blankOption : LlqOption
+blankOption = record { version = 0; opcode = 0; error = 0; number = record { 0 = 0 }; lease = 0 }
 
 abbrev pub isLlq : EdnsOption → Bool
 isLlq o = eqb (o .code) 1
@@ -79,11 +85,11 @@ abbrev pub llqFrom : List ℕ → ℕ → List EdnsOption
 llqFrom d at = keep isLlq (optionsFrom (suc (length d)) d at)
 
 -- the first eight of them by value
-abbrev pub firstEight : List EdnsOption → List OptionAt
-firstEight os = padded 8 blankOption (take 8 (map optionStart os))
+abbrev pub firstEight : List ℕ → List EdnsOption → List LlqOption
+firstEight d os = padded 8 blankOption (take 8 (map (λ o. optionRecord d (o .start)) os))
 
 pub record OptionsRead (d : List ℕ) (at : ℕ) (r : Options) : Type 0 where
   pub fill : r .fill ≡ optionsFill (suc (length d)) d at
   pub count : r .fill ≡ true → r .count ≡ length (llqFrom d at)
   pub sized : r .fill ≡ true → r .sized ≡ every isSized (llqFrom d at)
-  pub all : r .fill ≡ true → r .sized ≡ true → r .all ≡ firstEight (llqFrom d at)
+  pub all : r .fill ≡ true → r .sized ≡ true → r .all ≡ firstEight d (llqFrom d at)

@@ -3,39 +3,44 @@ ghost use mathlib.Core.Path.{_≡_};
 ghost use Prim.Native.Nat.{_+_, _≤_};
 ghost use lib.ListN.{length};
 ghost use Rattle.model.specs.Numbers.{bigEndian};
-ghost use Rattle.query.specs.Parts.{headerRecord, goodFields, blankQuestion, blankOption, QuestionsRead, OptionsRead, goodStart};
-ghost use Rattle.query.specs.Whole.{refusedWith, Reads};
+ghost use Rattle.query.specs.Parts.{goodFields, refusedHeader, QueryHeaderOf, blankQuestion, blankOption, QuestionsRead, OptFoundAt, OptionsRead};
+ghost use Rattle.query.specs.Whole.{lowestRefusal, matchOf, Reads};
 use wire::Cursor;
+use wire::HEADER_LEN;
+use wire::Header;
+use wire::LlqNumber;
+use wire::LlqOption;
 use wire::MessageNumber;
+use wire::OptRead;
 use wire::OptionRead;
 use wire::Question;
 use wire::QuestionRead;
 
-// The header's fields: the third byte holds QR, OPCODE, AA, TC and RD.
-pub struct Header {
+// What the header tells of a query: the refusal's number, 3 or 4, or 0; the message number and the RD bit; how many questions are to be read, none where it is refused, and from where.
+pub struct QueryHeader {
+    pub refused: u32,
     pub number: MessageNumber,
-    pub flags: u8,
-    pub qdcount: u16,
-    pub ancount: u16,
-    pub nscount: u16,
-    pub arcount: u16,
+    pub desired: u8,
+    pub count: usize,
+    pub first: Cursor,
 }
 
-// The questions: the first eight by value, where they end, and whether all are good. An array beside a verdict: an enum cannot hold it.
+// The questions: the first eight by value, the place behind them, and whether all are good. An array beside a verdict: an enum cannot hold it.
 pub struct Questions {
     pub all: [Question; 8],
-    pub end: usize,
+    pub next: Cursor,
     pub good: bool,
 }
 
-// An option of code 1: where its 18 bytes start in the datagram. They are read where the option is served, by wire::option_of: eight options are then 16 bytes, not 192.
-pub struct OptionAt {
-    pub start: u16,
+// Where the options start, and whether an OPT record stands before them. Where there is none they start at the end.
+pub struct OptFound {
+    pub first: Cursor,
+    pub good: bool,
 }
 
 // The options of code 1: the first eight by value, how many there are, whether each has length 18; and whether the options fill the datagram.
 pub struct Options {
-    pub all: [OptionAt; 8],
+    pub all: [LlqOption; 8],
     pub count: usize,
     pub sized: bool,
     pub fill: bool,
@@ -47,7 +52,7 @@ pub struct Query {
     pub desired: u8,
     pub count: usize,
     pub questions: [Question; 8],
-    pub options: [OptionAt; 8],
+    pub options: [LlqOption; 8],
     pub end: usize,
     pub matched: bool,
 }
@@ -56,20 +61,6 @@ pub struct Query {
 pub struct Parsed {
     pub refused: u32,
     pub query: Query,
-}
-
-pub fn read_header(s: &[u8]) -> Header
-    requires { ⌜ 12 ≤ length (now s) ⌝ }
-    ensures { λ r. ⌜ r ≡ headerRecord (now (s .entry)) ⌝ }
-{
-    Header {
-        number: MessageNumber(octets::get16(s, 0)),
-        flags: s[2],
-        qdcount: octets::get16(s, 4),
-        ancount: octets::get16(s, 6),
-        nscount: octets::get16(s, 8),
-        arcount: octets::get16(s, 10),
-    }
 }
 
 // Refusal 4's tests.
@@ -108,6 +99,47 @@ fn question_count(s: &[u8]) -> usize
     s[5] as usize
 }
 
+// A refused header has no questions read.
+fn refuse(number: u32) -> QueryHeader
+    ensures { λ r. ⌜ r ≡ refusedHeader number ⌝ }
+{
+    QueryHeader {
+        refused: number,
+        number: MessageNumber(0),
+        desired: 0,
+        count: 0,
+        first: Cursor { at: HEADER_LEN },
+    }
+}
+
+// Refusals 3 and 4.
+pub fn read_header(d: &[u8]) -> QueryHeader
+    ensures { λ r. ⌜ QueryHeaderOf (now (d .entry)) r ⌝ }
+{
+    if d.len() < HEADER_LEN {
+        return refuse(3);
+    }
+    if d.len() > 1472 {
+        return refuse(3);
+    }
+    let start = Cursor { at: 0 };
+    let r = start.header(d);
+    let h = r.header;
+    if !good_header(h) {
+        return refuse(4);
+    }
+    let number = h.number;
+    let first = r.next;
+    let count = question_count(d);
+    QueryHeader {
+        refused: 0,
+        number,
+        desired: h.flags % 2,
+        count,
+        first,
+    }
+}
+
 pub fn blank_question() -> Question
     ensures { λ r. ⌜ r ≡ blankQuestion ⌝ }
 {
@@ -119,20 +151,26 @@ pub fn blank_question() -> Question
     }
 }
 
-pub fn blank_option() -> OptionAt
+pub fn blank_option() -> LlqOption
     ensures { λ r. ⌜ r ≡ blankOption ⌝ }
 {
-    OptionAt { start: 0 }
+    LlqOption {
+        version: 0,
+        opcode: 0,
+        error: 0,
+        number: LlqNumber(0),
+        lease: 0,
+    }
 }
 
-// Refusal 5: count questions from the header's end, of a datagram short enough that its places fit 16 bits.
-pub fn read_questions(s: &[u8], count: usize) -> Questions
-    requires { ⌜ (count ≤ 8) × (length (now s) ≤ 1472) ⌝ }
+// Refusal 5: count questions from the header's end. Where some are read the datagram is short enough that its places fit 16 bits.
+pub fn read_questions(s: &[u8], first: Cursor, count: usize) -> Questions
+    requires { ⌜ (count ≤ 8) × (first .at ≡ 12) × (1 ≤ count → length (now s) ≤ 1472) ⌝ }
     ensures { λ r. ⌜ QuestionsRead (now (s .entry)) count r ⌝ }
 {
     let none = blank_question();
     let mut all = [none; 8];
-    let mut c = Cursor { at: 12 };
+    let mut c = first;
     let mut i: usize = 0;
     while i < count {
         match c.question(s) {
@@ -157,7 +195,7 @@ pub fn read_questions(s: &[u8], count: usize) -> Questions
             QuestionRead::Bad => {
                 return Questions {
                     all,
-                    end: 0,
+                    next: c,
                     good: false,
                 };
             }
@@ -165,36 +203,27 @@ pub fn read_questions(s: &[u8], count: usize) -> Questions
     }
     Questions {
         all,
-        end: c.at,
+        next: c,
         good: true,
     }
 }
 
-// Refusal 6, but for the options: root, type 41, version 0, and data that ends where the datagram does.
-pub fn opt_starts(s: &[u8], at: usize) -> bool
-    ensures { λ r. ⌜ r ≡ goodStart (now (s .entry)) at ⌝ }
+// Refusal 6, but for the options.
+pub fn find_opt(s: &[u8], c: Cursor) -> OptFound
+    ensures { λ r. ⌜ OptFoundAt (now (s .entry)) (c .at) r ⌝ }
 {
-    if s.len() < 11 {
-        return false;
+    match c.opt(s) {
+        OptRead::Data(first) => OptFound { first, good: true },
+        OptRead::Bad => OptFound {
+            first: Cursor { at: s.len() },
+            good: false,
+        },
     }
-    if s.len() - 11 < at {
-        return false;
-    }
-    if s[at] != 0 {
-        return false;
-    }
-    if octets::get16(s, at + 1) != 41 {
-        return false;
-    }
-    if s[at + 6] != 0 {
-        return false;
-    }
-    at + 11 + octets::get16(s, at + 9) as usize == s.len()
 }
 
-// The options from a place to the end, of a datagram short enough that its places fit 16 bits.
+// The options from a place to the end.
 pub fn read_options(s: &[u8], first: Cursor) -> Options
-    requires { ⌜ (first .at ≤ length (now s)) × (length (now s) ≤ 1472) ⌝ }
+    requires { ⌜ first .at ≤ length (now s) ⌝ }
     ensures { λ r. ⌜ OptionsRead (now (s .entry)) (first .at) r ⌝ }
 {
     let none = blank_option();
@@ -206,15 +235,16 @@ pub fn read_options(s: &[u8], first: Cursor) -> Options
         match c.option(s) {
             OptionRead::Found {
                 code,
-                start,
+                data,
                 size,
                 next,
             } => {
                 if code == 1 {
                     if size == 18 {
                         if count < 8 {
-                            let start = start as u16;
-                            all[count] = OptionAt { start };
+                            let r = data.llq_option(s);
+                            let option = r.option;
+                            all[count] = option;
                             count = count + 1;
                             c = next;
                         } else {
@@ -248,71 +278,61 @@ pub fn read_options(s: &[u8], first: Cursor) -> Options
     }
 }
 
-pub fn refuse(number: u32) -> Parsed
-    ensures { λ r. ⌜ r ≡ refusedWith number ⌝ }
+// Refusals 3 to 7, lowest number first, or 0.
+fn lowest_refusal(header: u32, questions: bool, opt: bool, fill: bool, count: usize) -> u32
+    ensures { λ r. ⌜ r ≡ lowestRefusal header questions opt fill count ⌝ }
 {
-    let q = blank_question();
-    let o = blank_option();
-    Parsed {
-        refused: number,
-        query: Query {
-            number: MessageNumber(0),
-            desired: 0,
-            count: 0,
-            questions: [q; 8],
-            options: [o; 8],
-            end: 0,
-            matched: false,
-        },
+    if header != 0 {
+        return header;
     }
+    if !questions {
+        return 5;
+    }
+    if !opt {
+        return 6;
+    }
+    if !fill {
+        return 6;
+    }
+    if count == 0 {
+        return 7;
+    }
+    0
 }
 
-// Refusals 3 to 7, lowest number first, or the query that the datagram is.
+// The count and length test: as many options of code 1 as questions, each of length 18.
+fn matches(count: usize, asked: usize, sized: bool) -> bool
+    ensures { λ r. ⌜ r ≡ matchOf count asked sized ⌝ }
+{
+    if count != asked {
+        return false;
+    }
+    sized
+}
+
+// Refusals 3 to 7, or the query that the datagram is. Each part is read also where one before it is refused: with one way through, the arrays are filled in one place and copied only where the options are served.
 pub fn parse(d: &[u8]) -> Parsed
     ensures { λ r. ⌜ Reads (now (d .entry)) r ⌝ }
 {
-    if d.len() < 12 {
-        return refuse(3);
-    }
-    if d.len() > 1472 {
-        return refuse(3);
-    }
     let h = read_header(d);
-    if !good_header(h) {
-        return refuse(4);
-    }
-    let count = question_count(d);
-    let q = read_questions(d, count);
-    if !q.good {
-        return refuse(5);
-    }
-    let end = q.end;
-    if !opt_starts(d, end) {
-        return refuse(6);
-    }
-    let o = read_options(d, Cursor { at: end + 11 });
-    if !o.fill {
-        return refuse(6);
-    }
-    if o.count == 0 {
-        return refuse(7);
-    }
-    let mut matched = o.sized;
-    if o.count != count {
-        matched = false;
-    }
+    let q = read_questions(d, h.first, h.count);
+    let next = q.next;
+    let x = find_opt(d, next);
+    let o = read_options(d, x.first);
     let number = h.number;
     let questions = q.all;
     let options = o.all;
+    let refused = lowest_refusal(h.refused, q.good, x.good, o.fill, o.count);
+    let matched = matches(o.count, h.count, o.sized);
     Parsed {
-        refused: 0,
+        refused,
         query: Query {
             number,
-            desired: h.flags % 2,
-            count,
+            desired: h.desired,
+            count: h.count,
             questions,
             options,
-            end,
+            end: next.at,
             matched,
         },
     }

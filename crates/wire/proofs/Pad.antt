@@ -1,6 +1,6 @@
 -- Laws of an array that is filled from the front. Assumes nothing.
-use Prim.Native.Nat.{ℕ, zero, suc, _+_, _-_, _≤_, _<_}
-use mathlib.Core.Path.{_≡_, refl, sym}
+use Prim.Native.Nat.{ℕ, suc, _+_, _-_, _≤_, _<_}
+use mathlib.Core.Path.{_≡_, sym}
 use mathlib.Core.List.{List, [], _∷_, _++_, append-assoc}
 use native.Mathlib.Nat.{sub-zero}
 use native.Mathlib.Omega.{arith}
@@ -19,20 +19,6 @@ pad-more n d xs x i e h =
 -- what stands before the padding
 pub pad-at : {A : Type 0} (n : ℕ) (d : A) (xs : List A) (i : ℕ) (e : A) → i < length xs → getD (padded n d xs) i e ≡ getD xs i e
 pad-at n d xs i e h = List·getD-append xs (replicate (n - length xs) d) e i h
-
--- the padding, and what a reader takes for granted past the array
-pub pad-past : {A : Type 0} (n : ℕ) (d : A) (xs : List A) (i : ℕ) → length xs ≤ i → getD (padded n d xs) i d ≡ d
-pad-past {A} n d xs i h = go (n - length xs) xs i h
-  where
-    all-same : (k i : ℕ) → getD (replicate k d) i d ≡ d
-    all-same zero i = refl
-    all-same (suc k) zero = refl
-    all-same (suc k) (suc i) = all-same k i
-
-    go : (k : ℕ) (ys : List A) (j : ℕ) → length ys ≤ j → getD (ys ++ replicate k d) j d ≡ d
-    go k [] j m = all-same k j
-    go k (y ∷ ys) zero m = absurd (omega arith)
-    go k (y ∷ ys) (suc j) m = go k ys j (omega arith)
 
 -- an array of n that takes the first n of what comes
 pub keep-more : {A : Type 0} (n : ℕ) (d : A) (xs : List A) (x : A) (i : ℕ) → length xs ≡ i → i < n

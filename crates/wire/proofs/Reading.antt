@@ -1,16 +1,16 @@
--- What holds of whatever the cursor reads as a name, a number, a question or an option. Assumes nothing.
+-- What holds of whatever the cursor reads as a name, a number, a question, an OPT record or an option. Assumes nothing.
 use Prim.Native.Nat.{ℕ, _+_, _≤_, _<_}
 use mathlib.Core.Path.{_≡_, refl, ap, subst}
 use mathlib.Core.List.{List}
 use mathlib.Core.Bool.{Bool, true, false, _&&_, and-false}
 use native.Mathlib.Omega.{arith}
-use lib.ListN.{length}
-use lib.Dec.{leb}
+use lib.ListN.{length, getD}
+use lib.Dec.{eqb, leb}
 use borrow.Author.Tests.{le-leb, lt-leb, leb-true, leb-false}
 use Rattle.model.specs.Numbers.{bigEndian}
-use Rattle.model.specs.Query.{nameAt, goodQuestion, questionEnd, goodOption, optionEnd}
+use Rattle.model.specs.Query.{nameAt, goodQuestion, questionEnd, optData, goodOption, optionEnd}
 use Rattle.wire.specs.Records.{questionRecord, recordAt}
-use Rattle.wire.specs.Read.{cursor, readNumber, readName, readQuestion, readOption}
+use Rattle.wire.specs.Read.{cursor, readNumber, readName, readQuestion, goodOptRecord, readOpt, readOption}
 use Rattle.wire.specs.declared.Cursor.{Cursor}
 use Rattle.wire.specs.declared.NumberRead.{NumberRead}
 use Rattle.wire.specs.declared.NumberRead.the-variants as number
@@ -18,6 +18,8 @@ use Rattle.wire.specs.declared.NameRead.{NameRead}
 use Rattle.wire.specs.declared.NameRead.the-variants as name
 use Rattle.wire.specs.declared.QuestionRead.{QuestionRead}
 use Rattle.wire.specs.declared.QuestionRead.the-variants as question
+use Rattle.wire.specs.declared.OptRead.{OptRead}
+use Rattle.wire.specs.declared.OptRead.the-variants as opt
 use Rattle.wire.specs.declared.OptionRead.{OptionRead}
 use Rattle.wire.specs.declared.OptionRead.the-variants as option
 use Rattle.wire.proofs.Choice.{cond-when}
@@ -106,11 +108,32 @@ question-is s at e =
     subst (QuestionIs s at) e
     (cond-when (QuestionIs s at) (goodQuestion s at) _ _ (λ t. (t, refl, refl)) (λ t. t))
 
+-- THE OPT RECORD
+
+-- one that starts well has its 11 bytes
+opt-within : (s : List ℕ) (at : ℕ) → goodOptRecord s at ≡ true → optData at ≤ length s
+opt-within s at e =
+    leb-true (optData at) (length s)
+    (first (leb (optData at) (length s)) (eqb (getD s at 0) 0) (eqb (bigEndian s (at + 1) 2) 41) (eqb (getD s (at + 6) 0) 0)
+    (eqb (optData at + bigEndian s (at + 9) 2) (length s)) e)
+  where
+    first : (a b c x y : Bool) → a && b && c && x && y ≡ true → a ≡ true
+    first true b c x y z = refl
+    first false b c x y z = z
+
+abbrev pub OptIs : List ℕ → ℕ → OptRead → Type 0
+OptIs s at (opt.Data first) = (goodOptRecord s at ≡ true) × (first .at ≡ optData at) × (first .at ≤ length s)
+OptIs s at opt.Bad = goodOptRecord s at ≡ false
+
+pub opt-is : (s : List ℕ) (at : ℕ) {r : OptRead} → readOpt s at ≡ r → OptIs s at r
+opt-is s at e =
+    subst (OptIs s at) e (cond-when (OptIs s at) (goodOptRecord s at) _ _ (λ t. (t, refl, opt-within s at t)) (λ t. t))
+
 -- OPTIONS
 
 abbrev pub OptionIs : List ℕ → ℕ → OptionRead → Type 0
-OptionIs s at (option.Found code start size next) =
-    (goodOption s at ≡ true) × (code ≡ bigEndian s at 2) × (start ≡ at + 4) × (size ≡ bigEndian s (at + 2) 2) × (next .at ≡ optionEnd s at)
+OptionIs s at (option.Found code body size next) =
+    (goodOption s at ≡ true) × (code ≡ bigEndian s at 2) × (body .at ≡ at + 4) × (size ≡ bigEndian s (at + 2) 2) × (next .at ≡ optionEnd s at)
     × (next .at ≤ length s)
 OptionIs s at option.Bad = goodOption s at ≡ false
 

@@ -2,15 +2,31 @@
 ghost use mathlib.Core.Path.{_≡_};
 ghost use Prim.Native.Nat.{_+_, _≤_};
 ghost use lib.ListN.{length};
-ghost use Rattle.wire.specs.Records.{optionRecord};
-ghost use Rattle.wire.specs.Read.{readByte, readNumber, readLabel, readName, readQuestion, readOption};
+ghost use Rattle.wire.specs.Read.{readByte, readNumber, readHeader, readLabel, readName, readQuestion, readOpt, readOption, readLlqOption};
 
 pub mod write;
+
+// The bytes of a header, of an OPT record before its options, and of an LLQ option with its code and length.
+pub const HEADER_LEN: usize = 12;
+
+pub const OPT_LEN: usize = 11;
+
+pub const OPTION_LEN: usize = 22;
 
 // A message number and an LLQ number are different kinds: neither can stand for the other.
 pub struct MessageNumber(pub u16);
 
 pub struct LlqNumber(pub u64);
+
+// A header's fields: the third byte holds QR, OPCODE, AA, TC and RD.
+pub struct Header {
+    pub number: MessageNumber,
+    pub flags: u8,
+    pub qdcount: u16,
+    pub ancount: u16,
+    pub nscount: u16,
+    pub arcount: u16,
+}
 
 // A question: where its name starts in the datagram, how many bytes the name takes, its type and class. Places in a datagram fit 16 bits: eight questions are then 64 bytes without gaps.
 pub struct Question {
@@ -20,13 +36,13 @@ pub struct Question {
     pub qclass: u16,
 }
 
-// An LLQ option's 18 bytes.
+// An LLQ option's 18 bytes. The widest field comes first: an array of eight is then cleared in two stores an option.
 pub struct LlqOption {
+    pub number: LlqNumber,
+    pub lease: u32,
     pub version: u16,
     pub opcode: u16,
     pub error: u16,
-    pub number: LlqNumber,
-    pub lease: u32,
 }
 
 // A place in a message. Each reader takes it and hands it back moved on.
@@ -42,6 +58,11 @@ pub enum ByteRead {
 pub enum NumberRead {
     Number(u16, Cursor),
     Short,
+}
+
+pub struct HeaderRead {
+    pub header: Header,
+    pub next: Cursor,
 }
 
 // A label that is passed, or the zero byte that ends a name.
@@ -69,15 +90,26 @@ pub enum QuestionRead {
     Bad,
 }
 
-// An option's code, where its bytes start and how many there are.
+// Where an OPT record's data start.
+pub enum OptRead {
+    Data(Cursor),
+    Bad,
+}
+
+// An option's code, where its data start and how many bytes they are.
 pub enum OptionRead {
     Found {
         code: u16,
-        start: usize,
+        data: Cursor,
         size: usize,
         next: Cursor,
     },
     Bad,
+}
+
+pub struct LlqRead {
+    pub option: LlqOption,
+    pub next: Cursor,
 }
 
 impl Cursor {
@@ -104,6 +136,27 @@ impl Cursor {
             return NumberRead::Short;
         }
         NumberRead::Number(octets::get16(s, at), Cursor { at: at + 2 })
+    }
+
+    // A header's 12 bytes.
+    pub fn header(self, s: &[u8]) -> HeaderRead
+        requires { ⌜ self .at + 12 ≤ length (now s) ⌝ }
+        ensures { λ r. ⌜ r ≡ readHeader (now (s .entry)) (self .at) ⌝ }
+    {
+        let at = self.at;
+        HeaderRead {
+            header: Header {
+                number: MessageNumber(octets::get16(s, at)),
+                flags: s[at + 2],
+                qdcount: octets::get16(s, at + 4),
+                ancount: octets::get16(s, at + 6),
+                nscount: octets::get16(s, at + 8),
+                arcount: octets::get16(s, at + 10),
+            },
+            next: Cursor {
+                at: at + HEADER_LEN,
+            },
+        }
     }
 
     // A length byte of 1 to 63 and the label's bytes, or the zero byte.
@@ -171,6 +224,33 @@ impl Cursor {
         }
     }
 
+    // Refusal 6, but for the options: an OPT record with the root, type 41, version 0, and data that ends where the message does.
+    pub fn opt(self, s: &[u8]) -> OptRead
+        ensures { λ r. ⌜ r ≡ readOpt (now (s .entry)) (self .at) ⌝ }
+    {
+        let at = self.at;
+        if s.len() < OPT_LEN {
+            return OptRead::Bad;
+        }
+        if s.len() - OPT_LEN < at {
+            return OptRead::Bad;
+        }
+        if s[at] != 0 {
+            return OptRead::Bad;
+        }
+        if octets::get16(s, at + 1) != 41 {
+            return OptRead::Bad;
+        }
+        if s[at + 6] != 0 {
+            return OptRead::Bad;
+        }
+        let data = at + OPT_LEN;
+        if data + octets::get16(s, at + 9) as usize != s.len() {
+            return OptRead::Bad;
+        }
+        OptRead::Data(Cursor { at: data })
+    }
+
     // A code, a length, and as many bytes.
     pub fn option(self, s: &[u8]) -> OptionRead
         ensures { λ r. ⌜ r ≡ readOption (now (s .entry)) (self .at) ⌝ }
@@ -190,23 +270,27 @@ impl Cursor {
         }
         OptionRead::Found {
             code,
-            start,
+            data: Cursor { at: start },
             size,
             next: Cursor { at: start + size },
         }
     }
-}
 
-// An LLQ option by value, from where its 18 bytes start.
-pub fn option_of(s: &[u8], at: usize) -> LlqOption
-    requires { ⌜ at + 18 ≤ length (now s) ⌝ }
-    ensures { λ r. ⌜ r ≡ optionRecord (now (s .entry)) at ⌝ }
-{
-    LlqOption {
-        version: octets::get16(s, at),
-        opcode: octets::get16(s, at + 2),
-        error: octets::get16(s, at + 4),
-        number: LlqNumber(octets::get64(s, at + 6)),
-        lease: octets::get32(s, at + 14),
+    // The 18 bytes of an LLQ option's data.
+    pub fn llq_option(self, s: &[u8]) -> LlqRead
+        requires { ⌜ self .at + 18 ≤ length (now s) ⌝ }
+        ensures { λ r. ⌜ r ≡ readLlqOption (now (s .entry)) (self .at) ⌝ }
+    {
+        let at = self.at;
+        LlqRead {
+            option: LlqOption {
+                version: octets::get16(s, at),
+                opcode: octets::get16(s, at + 2),
+                error: octets::get16(s, at + 4),
+                number: LlqNumber(octets::get64(s, at + 6)),
+                lease: octets::get32(s, at + 14),
+            },
+            next: Cursor { at: at + 18 },
+        }
     }
 }

@@ -7,6 +7,7 @@ ghost use Rattle.model.specs.Reply.{optBytes, optionBytes};
 ghost use Rattle.wire.specs.Write.{headerSent, outcomeSent};
 use crate::LlqNumber;
 use crate::MessageNumber;
+use crate::OPTION_LEN;
 
 // The header: the message number and QDCOUNT repeated, 0x84 plus the RD bit, one additional record.
 pub fn put_header(reply: &mut [u8], number: MessageNumber, desired: u8, count: u16)
@@ -35,7 +36,7 @@ pub fn put_opt(reply: &mut [u8], at: usize, k: u16)
     let c = b + 2;
     octets::put32(reply, c, 0);
     let d = c + 4;
-    octets::put16(reply, d, 22 * k);
+    octets::put16(reply, d, OPTION_LEN as u16 * k);
 }
 
 // An option at index at.

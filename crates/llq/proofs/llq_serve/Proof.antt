@@ -1,4 +1,7 @@
 -- `llq::llq_serve` meets its contract. Assumes nothing.
+use borrow.Author.Needs.{needs}
+use Rattle.llq.proofs.llq_serve.Statement.{statement}
+use Rattle.llq.proofs.llq_serve.Tie as tie
 use native.Mathlib.Omega.{arith}
 use mathlib.Core.Path.{_≡_, sym, _∙_}
 use denote.Ref.{now}
@@ -11,20 +14,8 @@ use Rattle.llq.proofs.LadderLaws as ladder
 use Rattle.llq.proofs.FoundLaws.{measures}
 use Rattle.model.proofs.Meaning.{bytes-back as sound-formed}
 use Rattle.table.proofs.WriteLaws.{formed-written}
-use Rattle.llq.proofs.AnswerLaws.{sound-place, sound-live, serve-answered}
-use borrow.Author.Needs.{needs}
-use Rattle.llq.proofs.llq_serve.Statement.{statement}
-use Rattle.llq.proofs.llq_serve.Tie as tie
-use Rattle.llq.proofs.llq_serve.Reads as reads
-use Rattle.llq.proofs.llq_serve.Lts as lts
-use Rattle.clock.proofs.place.Reads as place-reads
-use Rattle.clock.proofs.valid.Reads as valid-reads
-use Rattle.llq.proofs.answer.Reads as answer-reads
-use Rattle.llq.proofs.refuse.Reads as refuse-reads
-use Rattle.llq.proofs.reply_length.Reads as reply-length-reads
-use Rattle.query.proofs.parse.Reads as parse-reads
-use Rattle.sound.proofs.sound.Reads as sound-reads
-use Rattle.table.proofs.move_on.Reads as move-on-reads
+use Rattle.llq.proofs.AnswerLaws.{sound-place, sound-live, answers-mismatched, serve-answered}
+use Rattle.llq.proofs.ReplyLaws.{length-mismatched}
 
 -- the tests that have passed: the table and the reading
 started : (c : tie.Else2) → (soundBytes (c .before .before .before .before .before .before .before .before .args .t .now) ≡ true) × (validReading (c .before .before .before .before .before .before .before .before .args .week) (c .before .before .before .before .before .before .before .before .args .second) ≡ true)
@@ -75,7 +66,7 @@ returns-3 c =
     rw (c .refuse3 .ensures) (ladder.serve-query _ _ _ _ (p .0) (p .1) (c .before .before .parse .ensures .refused) (omega (arith, c .before .if3 .taken)))
 
 reply-length-requires : tie.Need-reply-length-requires
-reply-length-requires c κs = let h = c .before .before .parse .ensures .holds (c .before .if3 .left) in (measures (now (c .before .before .before .before .before .before .before .before .before .before .before .args .datagram)) _ h, h .matched)
+reply-length-requires c κs = let h = c .before .before .parse .ensures .query (c .before .if3 .left) in (measures (now (c .before .before .before .before .before .before .before .before .before .before .before .args .datagram)) _ h, h .matched)
 
 refuse-requires-4 : tie.Need-refuse-requires-4
 refuse-requires-4 c κs = search needs
@@ -111,14 +102,19 @@ move-on-requires c κs =
     let b = c .before .before .before .before .before .before .before .before .before .before .before .before .before .before .before .before .args .t .now in
     let e = started (c .before .before .before .before .before .before .before .before) .0 in (sound-formed b e, sound-place b e, c .place .ensures .1, sound-live b e)
 
-answer-requires : tie.Need-answer-requires
-answer-requires c κs =
-    let r = c .before .before .before .before .before .before .before .before .before .before .before in
-    let len = c .before .before .before .before .before .before .before .before .before .reply-length .ensures in
-    (formed-written (c .before .before .before .before .move-on .ensures .0), r .before .parse .ensures .holds (r .if3 .left), omega (arith, len, c .before .before .before .before .before .before .before .before .if4 .left))
+answer-mismatch-requires : tie.Need-answer-mismatch-requires
+answer-mismatch-requires c κs =
+    let w = c .before .before .before in
+    let r = w .before .before .before .before .before .before .before .before .before .before in
+    let h = r .before .parse .ensures .query (r .if3 .left) in
+    let d = now (w .before .before .before .before .before .before .before .before .before .before .before .before .before .before .before .before .before .before .before .before .args .datagram) in
+    let len = w .before .before .before .before .before .before .before .before .reply-length .ensures in
+    let m = measures d _ h in
+    let e = length-mismatched d _ _ _ m (h .matched) (not-true _ (c .before .before .if6 .taken)) in
+    (h .number, h .desired, m, omega (arith, e, len, w .before .before .before .before .before .before .before .if4 .left))
 
-cast-t22 : tie.Need-cast-t22
-cast-t22 c = search needs
+answered-requires : tie.Need-answered-requires
+answered-requires c κs = search needs
 
 same-length-6 : tie.Need-same-length-6
 same-length-6 c = search needs
@@ -128,11 +124,45 @@ same-length-7 c = search needs
 
 returns-6 : tie.Need-returns-6
 returns-6 c =
-    let r = c .before .before .before .before .before .before .before .before .before .before .before .before .before .before .before .before in
+    let w = c .before .before .before .before .before .before .before in
+    let r = w .before .before .before .before .before .before .before .before .before .before in
+    let h = r .before .parse .ensures .query (r .if3 .left) in
+    let d = now (w .before .before .before .before .before .before .before .before .before .before .before .before .before .before .before .before .before .before .before .before .args .datagram) in
+    let len = w .before .before .before .before .before .before .before .before .reply-length .ensures in
     let p = started (r .before .before) in
-    let len = c .before .before .before .before .before .before .before .before .before .before .before .before .before .before .reply-length .ensures in
-    let room = ladder.has-room _ _ _ len (c .before .before .before .before .before .before .before .before .before .before .before .before .before .if4 .left) (c .before .before .before .before .before .before .before .before .before .before .before .before .if5 .left) in
-    serve-answered _ _ _ _ _ _ _ _ (p .0) (p .1) (parsed r) room len (c .before .before .before .before .before .before .before .before .before .before .place .ensures .0) (c .before .before .before .before .before .before .before .before .before .move-on .ensures .0) (c .before .before .before .before .answer .ensures)
+    let room = ladder.has-room _ _ _ len (w .before .before .before .before .before .before .before .if4 .left) (w .before .before .before .before .before .before .if5 .left) in
+    let moved = w .before .before .before .move-on .ensures .0 in
+    rw (c .answered .ensures)
+    (serve-answered _ _ _ _ _ _ _ _ (p .0) (p .1) (parsed r) room len (w .before .before .before .before .place .ensures .0) moved
+    (answers-mismatched _ _ d _ _ _ _ _ (measures d _ h) (h .matched) (omega (arith, len, w .before .before .before .before .before .before .before .if4 .left)) _ (not-true _ (c .before .before .before .before .before .before .if6 .taken)) (formed-written moved) (c .before .before .before .answer-mismatch .ensures)))
+
+answer-requires : tie.Need-answer-requires
+answer-requires c κs =
+    let w = c .before .before .before in
+    let r = w .before .before .before .before .before .before .before .before .before .before in
+    let h = r .before .parse .ensures .query (r .if3 .left) in
+    let d = now (w .before .before .before .before .before .before .before .before .before .before .before .before .before .before .before .before .before .before .before .before .args .datagram) in
+    let len = w .before .before .before .before .before .before .before .before .reply-length .ensures in
+    (formed-written (w .before .before .before .move-on .ensures .0), h, not-false _ (c .before .before .if6 .left), omega (arith, len, w .before .before .before .before .before .before .before .if4 .left))
+
+answered-requires-2 : tie.Need-answered-requires-2
+answered-requires-2 c κs = search needs
+
+same-length-8 : tie.Need-same-length-8
+same-length-8 c = search needs
+
+same-length-9 : tie.Need-same-length-9
+same-length-9 c = search needs
+
+returns-7 : tie.Need-returns-7
+returns-7 c =
+    let w = c .before .before .before .before .before .before .before .before .before in
+    let r = w .before .before .before .before .before .before .before .before .before .before in
+    let len = w .before .before .before .before .before .before .before .before .reply-length .ensures in
+    let p = started (r .before .before) in
+    let room = ladder.has-room _ _ _ len (w .before .before .before .before .before .before .before .if4 .left) (w .before .before .before .before .before .before .if5 .left) in
+    rw (c .answered2 .ensures)
+    (serve-answered _ _ _ _ _ _ _ _ (p .0) (p .1) (parsed r) room len (w .before .before .before .before .place .ensures .0) (w .before .before .before .move-on .ensures .0) (c .before .before .before .before .before .answer .ensures))
 
 pub llq-serve-spec : {M : Type 1} → statement M
 llq-serve-spec =
@@ -159,8 +189,13 @@ llq-serve-spec =
     returns-5
     place-requires
     move-on-requires
-    answer-requires
-    cast-t22
+    answer-mismatch-requires
+    answered-requires
     same-length-6
     same-length-7
-    returns-6)
+    returns-6
+    answer-requires
+    answered-requires-2
+    same-length-8
+    same-length-9
+    returns-7)

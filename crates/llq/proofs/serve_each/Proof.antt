@@ -1,7 +1,7 @@
 -- `llq::serve_each` meets its contract. Assumes nothing.
-use Prim.Native.Nat.{ℕ, _+_, _-_, _*_, _≤_}
+use Prim.Native.Nat.{_-_, _*_, _≤_}
 use native.Mathlib.Omega.{arith}
-use mathlib.Core.Path.{_≡_, refl, sym, ap, _∙_}
+use mathlib.Core.Path.{_≡_, refl, sym}
 use borrow.Author.Needs.{needs}
 use denote.Ref.{now}
 use lib.ListN.{length}
@@ -12,16 +12,11 @@ use Rattle.model.specs.Reply.{optionBytes}
 use Rattle.entries.specs.Reads.{senderOf}
 use Rattle.table.specs.Written.{Written}
 use Rattle.llq.specs.Answer.{tableFrom, outcomeFrom}
-use Rattle.llq.proofs.FoundLaws.{option-read}
 use Rattle.llq.proofs.ReplyLaws.{options-none}
-use Rattle.wire.specs.Records.{optionOf}
 use Rattle.table.proofs.WriteLaws.{formed-written}
 use Rattle.llq.proofs.AnswerLaws.{written-none, written-next, reply-next}
 use Rattle.llq.proofs.serve_each.Statement.{statement}
 use Rattle.llq.proofs.serve_each.Tie as tie
-use Rattle.llq.proofs.serve_each.Reads as reads
-use Rattle.llq.proofs.serve_each.Lts as lts
-use Rattle.llq.proofs.serve_one.Reads as serve-one-reads
 
 abbrev Inv-loop : tie.InvT-loop
 Inv-loop t₀ reply₀ d s r n end questions options at i₀ t reply i =
@@ -46,18 +41,6 @@ loop-holds c =
       sym (options-none (outcomeFrom (senderOf (a .s)) (a .r) d (readTable (a .t .now))) _ (a .reply .now)),
     )
 
-mul-place : tie.Need-mul-place Inv-loop μ-loop
-mul-place c = search needs
-
-array-copy-out-place : tie.Need-array-copy-out-place Inv-loop μ-loop
-array-copy-out-place c = search needs
-
-cast-option-of : tie.Need-cast-option-of Inv-loop μ-loop
-cast-option-of c = search needs
-
-option-of-requires : tie.Need-option-of-requires Inv-loop μ-loop
-option-of-requires c κs = c .before .before .before .before .before .before .before .pre .3 .1 _
-
 mul-serve-one : tie.Need-mul-serve-one Inv-loop μ-loop
 mul-serve-one c = search needs
 
@@ -70,10 +53,16 @@ mul-serve-one-2 c = search needs
 array-copy-out-serve-one : tie.Need-array-copy-out-serve-one Inv-loop μ-loop
 array-copy-out-serve-one c = search needs
 
+mul-serve-one-3 : tie.Need-mul-serve-one-3 Inv-loop μ-loop
+mul-serve-one-3 c = search needs
+
+array-copy-out-serve-one-2 : tie.Need-array-copy-out-serve-one-2 Inv-loop μ-loop
+array-copy-out-serve-one-2 c = search needs
+
 serve-one-requires : tie.Need-serve-one-requires Inv-loop μ-loop
 serve-one-requires c κs =
-    let l = c .before .before .before .before .before .before .before .loop in
-    let z = c .before .before .before .before .before .before .before .before .before .before .before in
+    let l = c .before .before .before .before .before .loop in
+    let z = c .before .before .before .before .before .before .before .before .before in
     let q = z .pre .2 (l .i) _ (omega arith) in (formed-written (l .inv .3), q .1, q .2, omega (arith, z))
 
 add-i : tie.Need-add-i Inv-loop μ-loop
@@ -84,15 +73,14 @@ loop-less c = search needs
 
 loop-again : tie.Need-loop-again Inv-loop μ-loop
 loop-again c =
-    let p = c .before .before .before .before .before .before .before .before in
-    let l = p .before .before .before .before .loop in
-    let z = p .before .before .before .before .before .before .before .before in
+    let l = c .before .before .before .before .before .before .before .before .before .before .loop in
+    let z = c .before .before .before .before .before .before .before .before .before .before .before .before .before .before in
     let a = z .args in
     let s = senderOf (a .s) in
     let d = now (a .d) in
     let x = c .before .before .before .before .serve-one .ensures in
     let f = z .pre .2 (l .i) _ (omega arith) .0 in
-    let g = ap optionOf (p .option-of .ensures) ∙ option-read d _ ∙ z .pre .3 .0 (l .i) _ (omega arith) in (
+    let g = z .pre .3 (l .i) _ (omega arith) in (
       omega arith,
       search needs,
       search needs,
@@ -119,14 +107,12 @@ serve-each-spec =
     μ-loop
     add-at
     loop-holds
-    mul-place
-    array-copy-out-place
-    cast-option-of
-    option-of-requires
     mul-serve-one
     add-serve-one
     mul-serve-one-2
     array-copy-out-serve-one
+    mul-serve-one-3
+    array-copy-out-serve-one-2
     serve-one-requires
     add-i
     loop-less

@@ -7,7 +7,7 @@ use native.Mathlib.Omega.{arith}
 use mathlib.Core.Path.{sym, ap, _∙_}
 use lib.ListN.{length, replicate}
 use denote.Ref.{now}
-use Rattle.query.specs.declared.OptionAt.{OptionAt}
+use Rattle.wire.specs.declared.LlqOption.{LlqOption}
 use Rattle.wire.proofs.Reading.{option-is}
 use Rattle.query.proofs.OptionLaws as law
 
@@ -23,7 +23,7 @@ blank-option-requires c κs = search needs
 loop-holds : tie.Need-loop-holds Inv-loop μ-loop
 loop-holds c =
     let a = c .before .before .args in
-    law.passed-none (now (a .s)) (a .first .at) _ (omega arith) (ap (λ (q : OptionAt). replicate 8 q) (c .blank-option .ensures))
+    law.passed-none (now (a .s)) (a .first .at) _ (omega arith) (ap (λ (q : LlqOption). replicate 8 q) (c .blank-option .ensures))
 
 option-requires : tie.Need-option-requires Inv-loop μ-loop
 option-requires c κs = search needs
@@ -31,8 +31,8 @@ option-requires c κs = search needs
 enum-known-code : tie.Need-enum-known-code Inv-loop μ-loop
 enum-known-code c = search needs
 
-cast-start : tie.Need-cast-start Inv-loop μ-loop
-cast-start c =
+llq-option-requires : tie.Need-llq-option-requires Inv-loop μ-loop
+llq-option-requires c κs =
     let o = c .before .before .before .before .before .before in
     let l = o .before .before .before .loop in
     let a = o .before .before .before .before .before .before .args in
@@ -50,20 +50,20 @@ add-count c = search needs
 
 loop-less : tie.Need-loop-less Inv-loop μ-loop
 loop-less c =
-    let o = c .before .before .before .before .before .before in
+    let o = c .before .before .before .before .before .before .before .before in
     let l = o .before .before .before .loop in
     let a = o .before .before .before .before .before .before .args in
-    let q = option-is (now (a .s)) (l .c .at) (sym (o .option .ensures) ∙ c .before .before .before .before .code .given .1) in
+    let q = option-is (now (a .s)) (l .c .at) (sym (o .option .ensures) ∙ c .before .before .before .before .before .before .code .given .1) in
     omega (arith, q)
 
 loop-again : tie.Need-loop-again Inv-loop μ-loop
 loop-again c =
-    let o = c .before .before .before .before .before .before in
+    let o = c .before .before .before .before .before .before .before .before in
     let l = o .before .before .before .loop in
     let a = o .before .before .before .before .before .before .args in
-    let q = option-is (now (a .s)) (l .c .at) (sym (o .option .ensures) ∙ c .before .before .before .before .code .given .1) in
-    rw (q .4, q .2)
-    (law.pass-stored (now (a .s)) (a .first .at) (l .c .at) (l .count) (l .sized) (l .all) (l .inv) (omega arith) (q .0) (omega arith) (sym (q .1) ∙ c .before .before .if2 .taken) (sym (q .3) ∙ c .before .if3 .taken) (omega arith))
+    let q = option-is (now (a .s)) (l .c .at) (sym (o .option .ensures) ∙ c .before .before .before .before .before .before .code .given .1) in
+    rw (q .4, c .before .llq-option .ensures, q .2)
+    (law.pass-stored (now (a .s)) (a .first .at) (l .c .at) (l .count) (l .sized) (l .all) (l .inv) (omega arith) (q .0) (omega arith) (sym (q .1) ∙ c .before .before .before .before .if2 .taken) (sym (q .3) ∙ c .before .before .before .if3 .taken) (omega arith))
 
 add-count-2 : tie.Need-add-count-2 Inv-loop μ-loop
 add-count-2 c = search needs
@@ -146,7 +146,7 @@ read-options-spec =
     loop-holds
     option-requires
     enum-known-code
-    cast-start
+    llq-option-requires
     mul-all
     array-set-from-all
     add-count

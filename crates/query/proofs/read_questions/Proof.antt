@@ -22,7 +22,7 @@ blank-question-requires c κs = search needs
 
 loop-holds : tie.Need-loop-holds Inv-loop μ-loop
 loop-holds c =
-    (search needs, law.passed-none (now (c .before .before .args .s)) _ (ap (λ (q : Question). replicate 8 q) (c .blank-question .ensures)))
+    (search needs, law.passed-none (now (c .before .before .args .s)) _ _ (c .before .before .pre .1) (ap (λ (q : Question). replicate 8 q) (c .blank-question .ensures)))
 
 question-requires : tie.Need-question-requires Inv-loop μ-loop
 question-requires c κs = search needs
@@ -33,13 +33,13 @@ enum-known-start c = search needs
 cast-start : tie.Need-cast-start Inv-loop μ-loop
 cast-start c =
     let l = c .before .before .before .before .before in
-    let p = law.found-fits (now (l .before .before .before .args .s)) (l .loop .c .at) (l .before .before .before .pre .1) (sym (c .before .before .before .question .ensures) ∙ c .before .start .given .1) in
+    let p = law.found-fits (now (l .before .before .before .args .s)) (l .loop .c .at) (l .before .before .before .pre .2 (omega arith)) (sym (c .before .before .before .question .ensures) ∙ c .before .start .given .1) in
     omega (arith, p)
 
 cast-len : tie.Need-cast-len Inv-loop μ-loop
 cast-len c =
     let l = c .before .before .before .before .before in
-    let p = law.found-fits (now (l .before .before .before .args .s)) (l .loop .c .at) (l .before .before .before .pre .1) (sym (c .before .before .before .question .ensures) ∙ c .before .start .given .1) in
+    let p = law.found-fits (now (l .before .before .before .args .s)) (l .loop .c .at) (l .before .before .before .pre .2 (omega arith)) (sym (c .before .before .before .question .ensures) ∙ c .before .start .given .1) in
     omega (arith, p)
 
 mul-all : tie.Need-mul-all Inv-loop μ-loop

@@ -33,6 +33,9 @@ put32-requires c κs = search needs
 add-d : tie.Need-add-d
 add-d c = search needs
 
+cast-put16 : tie.Need-cast-put16
+cast-put16 c = search needs
+
 mul-put16 : tie.Need-mul-put16
 mul-put16 c = search needs
 
@@ -61,6 +64,7 @@ put-opt-spec =
     add-c
     put32-requires
     add-d
+    cast-put16
     mul-put16
     put16-requires-3
     same-length

@@ -1,7 +1,7 @@
--- The proof of `option_of`. Assumes nothing.
+-- The proof of `Cursor::llq_option`. Assumes nothing.
 use borrow.Author.Needs.{needs}
-use Rattle.wire.proofs.option_of.Statement.{statement}
-use Rattle.wire.proofs.option_of.Tie as tie
+use Rattle.wire.proofs.Cursor.llq_option.Statement.{statement}
+use Rattle.wire.proofs.Cursor.llq_option.Tie as tie
 use Prim.Native.Nat.{_-_}
 
 get16-requires : tie.Need-get16-requires
@@ -31,12 +31,15 @@ add-get32 c = search needs
 get32-requires : tie.Need-get32-requires
 get32-requires c κs = search needs
 
+add-t15 : tie.Need-add-t15
+add-t15 c = search needs
+
 returns : tie.Need-returns
 returns c =
     rw (c .get32 .ensures, c .before .get64 .ensures, c .before .before .get163 .ensures, c .before .before .before .get162 .ensures, c .before .before .before .before .get16 .ensures)
 
-pub option-of-spec : {M : Type 1} → statement M
-option-of-spec =
+pub llq-option-spec : {M : Type 1} → statement M
+llq-option-spec =
     tie.close
     (tie.spec
     get16-requires
@@ -48,4 +51,5 @@ option-of-spec =
     get64-requires
     add-get32
     get32-requires
+    add-t15
     returns)

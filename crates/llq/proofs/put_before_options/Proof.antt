@@ -1,15 +1,10 @@
--- `llq::put_front` meets its contract. Assumes nothing.
+-- `llq::put_before_options` meets its contract. Assumes nothing.
 use borrow.Author.Needs.{needs}
 use denote.Ref.{now}
 use native.Mathlib.Omega.{arith}
-use Rattle.llq.proofs.ReplyLaws.{header-is, front-written}
-use Rattle.llq.proofs.put_front.Statement.{statement}
-use Rattle.llq.proofs.put_front.Tie as tie
-use Rattle.llq.proofs.put_front.Reads as reads
-use Rattle.llq.proofs.put_front.Lts as lts
-use Rattle.octets.proofs.copy.Reads as copy-reads
-use Rattle.wire.proofs.write.put_header.Reads as put-header-reads
-use Rattle.wire.proofs.write.put_opt.Reads as put-opt-reads
+use Rattle.llq.proofs.ReplyLaws.{header-is, before-written}
+use Rattle.llq.proofs.put_before_options.Statement.{statement}
+use Rattle.llq.proofs.put_before_options.Tie as tie
 
 cast-put-header : tie.Need-cast-put-header
 cast-put-header c = search needs
@@ -40,10 +35,10 @@ returns c =
       header-is (now (z .args .d)) _ _ _ (z .pre .0) (z .pre .1) (h .count),
       h .end,
     )
-    (front-written (now (z .args .d)) (z .args .k) (omega (arith, h .end, h .from)) (omega (arith, h .end, h .within)) (z .args .reply .now) (omega (arith, h .end, z)))
+    (before-written (now (z .args .d)) (z .args .k) (omega (arith, h .end, h .from)) (omega (arith, h .end, h .within)) (z .args .reply .now) (omega (arith, h .end, z)))
 
-pub put-front-spec : {M : Type 1} → statement M
-put-front-spec =
+pub put-before-options-spec : {M : Type 1} → statement M
+put-before-options-spec =
     tie.close
     (tie.spec
     cast-put-header
