@@ -59,15 +59,15 @@ carried-one e b l at to x h f n z a =
     }
 
 -- what stands before the reply buffer in an answer
-abbrev pub frontOf : ℕ → ℕ → ℕ → List ℕ
-frontOf k n v = encode ((4, k) ∷ (4, n) ∷ (4, v) ∷ [])
+abbrev pub numbersOf : ℕ → ℕ → ℕ → List ℕ
+numbersOf k n v = encode ((4, k) ∷ (4, n) ∷ (4, v) ∷ [])
 
-front-length : (k n v : ℕ) (r : List ℕ) → length (frontOf k n v ++ r) ≡ 12 + length r
-front-length k n v r = length-append (frontOf k n v) r ∙ ap (λ (m : ℕ). m + length r) (length-encode ((4, k) ∷ (4, n) ∷ (4, v) ∷ []))
+numbers-length : (k n v : ℕ) (r : List ℕ) → length (numbersOf k n v ++ r) ≡ 12 + length r
+numbers-length k n v r = length-append (numbersOf k n v) r ∙ ap (λ (m : ℕ). m + length r) (length-encode ((4, k) ∷ (4, n) ∷ (4, v) ∷ []))
 
 -- with no reply buffer
-bare : (k n v at : ℕ) (t l : List ℕ) → v ≡ sumOf t → splice at 12 (frontOf k n v) l ≡ splice at 12 (frontOf k n (sumOf t) ++ []) l
-bare k n v at t l e = rw (e, append-nil (frontOf k n (sumOf t)))
+bare : (k n v at : ℕ) (t l : List ℕ) → v ≡ sumOf t → splice at 12 (numbersOf k n v) l ≡ splice at 12 (numbersOf k n (sumOf t) ++ []) l
+bare k n v at t l e = rw (e, append-nil (numbersOf k n (sumOf t)))
 
 -- written before a reply buffer that stands in its place
 before-reply : (at j k : ℕ) (us vs s : List ℕ) → length us ≡ j → at + j ≤ length s → splice at j us (splice (at + j) k vs s) ≡ splice at (j + k) (us ++ vs) s
@@ -81,15 +81,15 @@ before-reply at j k us vs s e h =
     rw (t, d, add-assoc at j k, append-assoc us vs (drop (at + (j + k)) s))
 
 -- d is the call as the code read it
-pub carried-made : (d c : MakeCall) (k v at : ℕ) (b t l x : List ℕ) → d ≡ c → Makes model d b t k → v ≡ sumOf t → x ≡ splice at 12 (frontOf k 0 v) l
+pub carried-made : (d c : MakeCall) (k v at : ℕ) (b t l x : List ℕ) → d ≡ c → Makes model d b t k → v ≡ sumOf t → x ≡ splice at 12 (numbersOf k 0 v) l
     → Carried (making c ∷ []) b t l x at (at + 12)
 carried-made d c k v at b t l x e h s a =
-    carried-one (made c k t) b l at (at + 12) x (subst (λ (z : MakeCall). Makes model z b t k) e h) tt (front-length k 0 (sumOf t) []) refl (a ∙ bare k 0 v at t l s)
+    carried-one (made c k t) b l at (at + 12) x (subst (λ (z : MakeCall). Makes model z b t k) e h) tt (numbers-length k 0 (sumOf t) []) refl (a ∙ bare k 0 v at t l s)
 
-pub carried-ticked : (d c : TickCall) (k n v at : ℕ) (b t l x : List ℕ) → d ≡ c → Ticks model d b t k n → v ≡ sumOf t → x ≡ splice at 12 (frontOf k n v) l
+pub carried-ticked : (d c : TickCall) (k n v at : ℕ) (b t l x : List ℕ) → d ≡ c → Ticks model d b t k n → v ≡ sumOf t → x ≡ splice at 12 (numbersOf k n v) l
     → Carried (ticking c ∷ []) b t l x at (at + 12)
 carried-ticked d c k n v at b t l x e h s a =
-    carried-one (ticked c k n t) b l at (at + 12) x (subst (λ (z : TickCall). Ticks model z b t k n) e h) tt (front-length k n (sumOf t) []) refl (a ∙ bare k n v at t l s)
+    carried-one (ticked c k n t) b l at (at + 12) x (subst (λ (z : TickCall). Ticks model z b t k n) e h) tt (numbers-length k n (sumOf t) []) refl (a ∙ bare k n v at t l s)
 
 -- d is the call, and l the reply buffer, as the code has them
 pub serves-read : (d c : ServeCall) (k n : ℕ) (b t l m r : List ℕ) → d ≡ c → l ≡ m → Serves model d b t l r k n → Serves model c b t m r k n
@@ -98,13 +98,13 @@ serves-read d c k n b t l m r e f h = subst (λ (z : ServeCall). Serves model z 
 -- the reply buffer, of m bytes, is written first, in its place
 pub carried-served : (c : ServeCall) (k n v m at : ℕ) (b t l r x : List ℕ) → m ≡ c .room → Serves model c b t (replicate (c .room) 170) r k n → length r ≡ m → v ≡ sumOf t
     → at + 12 + m ≤ length l
-    → x ≡ splice at 12 (frontOf k n v) (splice (at + 12) m r l)
+    → x ≡ splice at 12 (numbersOf k n v) (splice (at + 12) m r l)
     → Carried (serving c ∷ []) b t l x at (at + 12 + m)
 carried-served c k n v m at b t l r x q h z s f a =
-    let y : splice at 12 (frontOf k n (sumOf t)) (splice (at + 12) m r l) ≡ splice at (12 + m) (frontOf k n (sumOf t) ++ r) l =
-    before-reply at 12 m (frontOf k n (sumOf t)) r l (length-encode ((4, k) ∷ (4, n) ∷ (4, sumOf t) ∷ [])) (omega arith) in
+    let y : splice at 12 (numbersOf k n (sumOf t)) (splice (at + 12) m r l) ≡ splice at (12 + m) (numbersOf k n (sumOf t) ++ r) l =
+    before-reply at 12 m (numbersOf k n (sumOf t)) r l (length-encode ((4, k) ∷ (4, n) ∷ (4, sumOf t) ∷ [])) (omega arith) in
     carried-one (served c (replicate (c .room) 170) k n t r) b l at (at + 12 + m) x (sym (length-replicate (c .room) 170), h) refl
-    (front-length k n (sumOf t) r ∙ ap (λ (j : ℕ). 12 + j) (z ∙ q)) (omega arith) (rw (← q) (a ∙ (rw s y)))
+    (numbers-length k n (sumOf t) r ∙ ap (λ (j : ℕ). 12 + j) (z ∙ q)) (omega arith) (rw (← q) (a ∙ (rw s y)))
 
 -- SOME, AND THEN OTHERS
 trace-both : (b : List ℕ) (es fs : List Event) → Trace model b es → Trace model (leftBy b es) fs → Trace model b (es ++ fs)

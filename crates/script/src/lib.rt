@@ -14,8 +14,8 @@ ghost use Rattle.script.specs.Ran.{Carried, Runs};
 
 // A record's head; its body follows.
 const HEAD: usize = 39;
-// Of an answer, what stands before the reply buffer.
-const FRONT: usize = 12;
+// The three numbers of an answer, before the reply buffer.
+const NUMBERS: usize = 12;
 
 // Whether the script was carried out, and how many bytes its answers take in the lent buffer.
 pub struct Ran {
@@ -60,13 +60,13 @@ pub fn answer_length(s: &[u8], at: usize) -> usize
 {
     let kind = s[at];
     if kind == b'M' {
-        return FRONT;
+        return NUMBERS;
     }
     if kind == b'T' {
-        return FRONT;
+        return NUMBERS;
     }
     if kind == b'S' {
-        return FRONT + room(s, at) as usize;
+        return NUMBERS + room(s, at) as usize;
     }
     0
 }
@@ -110,7 +110,8 @@ fn sum(t: &[u8]) -> u32
     c as u32
 }
 
-fn put_front(out: &mut [u8], at: usize, number: u32, gave: u32, sum: u32)
+// Number, freed or length, and the sum of the table.
+fn put_numbers(out: &mut [u8], at: usize, number: u32, gave: u32, sum: u32)
     requires { ⌜ at + 12 ≤ length (now out) ⌝ }
     ensures { λ _. ⌜ now (out .exit) ≡ splice at 12 (encode ((4, number) ∷ (4, gave) ∷ (4, sum) ∷ [])) (now (out .entry)) ⌝ }
 {
@@ -144,8 +145,8 @@ fn make(s: &[u8], at: usize, t: &mut [u8], out: &mut [u8], to: usize) -> usize
         t,
         &s[body..end],
     );
-    put_front(out, to, number, 0, sum(t));
-    to + FRONT
+    put_numbers(out, to, number, 0, sum(t));
+    to + NUMBERS
 }
 
 fn tick(s: &[u8], at: usize, t: &mut [u8], out: &mut [u8], to: usize) -> usize
@@ -153,8 +154,8 @@ fn tick(s: &[u8], at: usize, t: &mut [u8], out: &mut [u8], to: usize) -> usize
     ensures { λ r. ⌜ Carried (ticking (tickAt (now (s .entry)) at) ∷ []) (now (t .entry)) (now (t .exit)) (now (out .entry)) (now (out .exit)) to r ⌝ }
 {
     let r = llq::llq_tick(octets::get32(s, at + 1), octets::get32(s, at + 5), t);
-    put_front(out, to, r.number, r.freed, sum(t));
-    to + FRONT
+    put_numbers(out, to, r.number, r.freed, sum(t));
+    to + NUMBERS
 }
 
 // A datagram served into a reply buffer, which is filled first.
@@ -182,10 +183,10 @@ fn serve(s: &[u8], at: usize, t: &mut [u8], out: &mut [u8], to: usize) -> usize
     requires { ⌜ (nextAt (now s) at ≤ length (now s)) × (to + 12 + roomAt (now s) at ≤ length (now out)) ⌝ }
     ensures { λ r. ⌜ Carried (serving (serveAt (now (s .entry)) at) ∷ []) (now (t .entry)) (now (t .exit)) (now (out .entry)) (now (out .exit)) to r ⌝ }
 {
-    let first = to + FRONT;
+    let first = to + NUMBERS;
     let last = first + room(s, at) as usize;
     let r = serve_into(s, at, t, &mut out[first..last]);
-    put_front(out, to, r.number, r.length, sum(t));
+    put_numbers(out, to, r.number, r.length, sum(t));
     last
 }
 

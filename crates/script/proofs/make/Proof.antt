@@ -10,7 +10,7 @@ use Rattle.script.proofs.make.Lts as lts
 use Rattle.llq.proofs.llq_make.Reads as llq-make-reads
 use Rattle.octets.proofs.get32.Reads as get32-reads
 use Rattle.script.proofs.next.Reads as next-reads
-use Rattle.script.proofs.put_front.Reads as put-front-reads
+use Rattle.script.proofs.put_numbers.Reads as put-numbers-reads
 use Rattle.script.proofs.sum.Reads as sum-reads
 
 add-body : tie.Need-add-body
@@ -46,8 +46,8 @@ llq-make-requires c κs = search needs
 sum-requires : tie.Need-sum-requires
 sum-requires c κs = search needs
 
-put-front-requires : tie.Need-put-front-requires
-put-front-requires c κs = search needs
+put-numbers-requires : tie.Need-put-numbers-requires
+put-numbers-requires c κs = search needs
 
 add-result : tie.Need-add-result
 add-result c = search needs
@@ -63,7 +63,7 @@ returns c =
     let p = c .before .before .before .before .before .before .before .before in
     let a = c .before .before .before .before .before .before .before .before .before .before .before .before .before .before .before .before .before .args in
     let e = make-read (now (a .s)) (a .at) _ _ _ (p .before .before .before .before .get32 .ensures) (p .before .before .before .get322 .ensures) (p .before .before .before .before .before .next .ensures) in
-    carried-made _ _ _ _ (a .to) _ _ _ _ e (p .llq-make .ensures) (c .before .before .before .sum .ensures) (c .before .before .put-front .ensures)
+    carried-made _ _ _ _ (a .to) _ _ _ _ e (p .llq-make .ensures) (c .before .before .before .sum .ensures) (c .before .before .put-numbers .ensures)
 
 pub make-spec : {M : Type 1} → statement M
 make-spec =
@@ -80,7 +80,7 @@ make-spec =
     part-llq-make-end
     llq-make-requires
     sum-requires
-    put-front-requires
+    put-numbers-requires
     add-result
     same-length
     same-length-2

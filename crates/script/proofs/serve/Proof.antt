@@ -10,7 +10,7 @@ use Rattle.script.proofs.serve.Statement.{statement}
 use Rattle.script.proofs.serve.Tie as tie
 use Rattle.script.proofs.serve.Reads as reads
 use Rattle.script.proofs.serve.Lts as lts
-use Rattle.script.proofs.put_front.Reads as put-front-reads
+use Rattle.script.proofs.put_numbers.Reads as put-numbers-reads
 use Rattle.script.proofs.room.Reads as room-reads
 use Rattle.script.proofs.serve_into.Reads as serve-into-reads
 use Rattle.script.proofs.sum.Reads as sum-reads
@@ -42,8 +42,8 @@ serve-into-requires c κs = search needs
 sum-requires : tie.Need-sum-requires
 sum-requires c κs = search needs
 
-put-front-requires : tie.Need-put-front-requires
-put-front-requires c κs = search needs
+put-numbers-requires : tie.Need-put-numbers-requires
+put-numbers-requires c κs = search needs
 
 same-length : tie.Need-same-length
 same-length c = search needs
@@ -59,7 +59,7 @@ returns c =
     let r = p .serve-into .last .1 .1 .1 .0 in
     let z : length r ≡ n = omega (arith, p) in
     carried-served _ _ _ _ n (a .to) _ _ _ r _ (p .before .before .before .room .ensures) (p .serve-into .ensures) z (c .before .before .before .sum .ensures) (omega (arith, p .before .before .before .room .ensures, c .before .before .before .before .before .before .before .before .before .before .before .before .before .before .before .before .before))
-    (c .before .before .put-front .ensures ∙ ap (splice (a .to) 12 _) (lent-is (a .out .now) n refl refl))
+    (c .before .before .put-numbers .ensures ∙ ap (splice (a .to) 12 _) (lent-is (a .out .now) n refl refl))
 
 pub serve-spec : {M : Type 1} → statement M
 serve-spec =
@@ -74,7 +74,7 @@ serve-spec =
     part-serve-into-end
     serve-into-requires
     sum-requires
-    put-front-requires
+    put-numbers-requires
     same-length
     same-length-2
     returns)

@@ -9,7 +9,7 @@ use Rattle.script.proofs.tick.Reads as reads
 use Rattle.script.proofs.tick.Lts as lts
 use Rattle.llq.proofs.llq_tick.Reads as llq-tick-reads
 use Rattle.octets.proofs.get32.Reads as get32-reads
-use Rattle.script.proofs.put_front.Reads as put-front-reads
+use Rattle.script.proofs.put_numbers.Reads as put-numbers-reads
 use Rattle.script.proofs.sum.Reads as sum-reads
 
 add-get32 : tie.Need-add-get32
@@ -30,8 +30,8 @@ llq-tick-requires c κs = search needs
 sum-requires : tie.Need-sum-requires
 sum-requires c κs = search needs
 
-put-front-requires : tie.Need-put-front-requires
-put-front-requires c κs = search needs
+put-numbers-requires : tie.Need-put-numbers-requires
+put-numbers-requires c κs = search needs
 
 add-result : tie.Need-add-result
 add-result c = search needs
@@ -47,7 +47,7 @@ returns c =
     let p = c .before .before .before .before .before .before .before .before in
     let a = c .before .before .before .before .before .before .before .before .before .before .before .before .before .before .before .args in
     let e = tick-read (now (a .s)) (a .at) _ _ (p .before .before .before .get32 .ensures) (p .before .before .get322 .ensures) in
-    carried-ticked _ _ _ _ _ (a .to) _ _ _ _ e (p .llq-tick .ensures) (c .before .before .before .sum .ensures) (c .before .before .put-front .ensures)
+    carried-ticked _ _ _ _ _ (a .to) _ _ _ _ e (p .llq-tick .ensures) (c .before .before .before .sum .ensures) (c .before .before .put-numbers .ensures)
 
 pub tick-spec : {M : Type 1} → statement M
 tick-spec =
@@ -59,7 +59,7 @@ tick-spec =
     get32-requires-2
     llq-tick-requires
     sum-requires
-    put-front-requires
+    put-numbers-requires
     add-result
     same-length
     same-length-2

@@ -1,14 +1,14 @@
--- `script::put_front` meets its contract. Assumes nothing.
+-- `script::put_numbers` meets its contract. Assumes nothing.
 use Prim.Native.Nat.{_+_}
 use native.Mathlib.Omega.{arith}
 use mathlib.Core.List.{[], _∷_}
 use mathlib.Core.Path.{_≡_}
 use borrow.Author.Needs.{needs}
 use Rattle.model.proofs.NumberLaws.{writes-eq}
-use Rattle.script.proofs.put_front.Statement.{statement}
-use Rattle.script.proofs.put_front.Tie as tie
-use Rattle.script.proofs.put_front.Reads as reads
-use Rattle.script.proofs.put_front.Lts as lts
+use Rattle.script.proofs.put_numbers.Statement.{statement}
+use Rattle.script.proofs.put_numbers.Tie as tie
+use Rattle.script.proofs.put_numbers.Reads as reads
+use Rattle.script.proofs.put_numbers.Lts as lts
 use Rattle.octets.proofs.put32.Reads as put32-reads
 
 put32-requires : tie.Need-put32-requires
@@ -36,8 +36,8 @@ returns c =
     rw (c .before .before .put323 .ensures, e, c .before .before .before .before .before .before .put322 .ensures, c .before .before .before .before .before .before .before .before .before .before .put32 .ensures)
     (writes-eq ((4, a .number) ∷ (4, a .gave) ∷ (4, a .sum) ∷ []) (a .at) (a .out .now) (omega (arith, c .before .before .before .before .before .before .before .before .before .before .before .before .before)))
 
-pub put-front-spec : {M : Type 1} → statement M
-put-front-spec =
+pub put-numbers-spec : {M : Type 1} → statement M
+put-numbers-spec =
     tie.close
     (tie.spec
     put32-requires
