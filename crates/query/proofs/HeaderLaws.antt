@@ -27,8 +27,8 @@ last h a b c d e f g = rw (a, b, c, d, e, f, g)
 
 -- THE WAYS OUT
 
-refused : (d : List ℕ) (k : ℕ) → 1 ≤ k → k ≡ headerRefusal d → QueryHeaderOf d (refusedHeader k)
-refused d k l e =
+refused : (d : List ℕ) (k n : ℕ) → 1 ≤ k → k ≡ headerRefusal d → QueryHeaderOf d (refusedHeader k n)
+refused d k n l e =
     record {
       refused = e;
       number = λ z. absurd (omega arith);
@@ -36,17 +36,16 @@ refused d k l e =
       count = λ z. absurd (omega arith);
       atLeast = λ z. absurd (omega arith);
       atMost = omega arith;
-      short = λ z. absurd (omega arith);
-      first = refl;
+      first = λ z. absurd (omega arith);
     }
 
-pub short : (d : List ℕ) → length d < 12 → QueryHeaderOf d (refusedHeader 3)
+pub short : (d : List ℕ) (n : ℕ) → length d < 12 → QueryHeaderOf d (refusedHeader 3 n)
 unfolding headerRefusal refusal
-short d h = refused d 3 (omega arith) (rw (lt-ltb (length d) 12 h))
+short d n h = refused d 3 n (omega arith) (rw (lt-ltb (length d) 12 h))
 
-pub long : (d : List ℕ) → 12 ≤ length d → 1472 < length d → QueryHeaderOf d (refusedHeader 3)
+pub long : (d : List ℕ) (n : ℕ) → 12 ≤ length d → 1472 < length d → QueryHeaderOf d (refusedHeader 3 n)
 unfolding headerRefusal refusal
-long d l h = refused d 3 (omega arith) (rw (le-ltb (length d) 12 l, lt-ltb 1472 (length d) h))
+long d n l h = refused d 3 n (omega arith) (rw (le-ltb (length d) 12 l, lt-ltb 1472 (length d) h))
 
 module _ (d : List ℕ) (lo : 12 ≤ length d) (hi : length d ≤ 1472) (r : HeaderRead) (re : r ≡ readHeader d 0) where
   size : wrongSize d ≡ false
@@ -55,9 +54,9 @@ module _ (d : List ℕ) (lo : 12 ≤ length d) (hi : length d ≤ 1472) (r : Hea
   header : (v : Bool) → goodFields (r .header) ≡ v → goodHeader d ≡ v
   header v e = sym (fields-good d) ∙ ap (λ (r : HeaderRead). goodFields (r .header)) (sym re) ∙ e
 
-  pub bad : goodFields (r .header) ≡ false → QueryHeaderOf d (refusedHeader 4)
+  pub bad : (n : ℕ) → goodFields (r .header) ≡ false → QueryHeaderOf d (refusedHeader 4 n)
   unfolding headerRefusal refusal
-  bad e = refused d 4 (omega arith) (rw (size, header false e))
+  bad n e = refused d 4 n (omega arith) (rw (size, header false e))
 
   -- a good header tells of 1 to 8 questions
   pub few : goodFields (r .header) ≡ true → qdcount d ≤ 8
@@ -75,6 +74,5 @@ module _ (d : List ℕ) (lo : 12 ≤ length d) (hi : length d ≤ 1472) (r : Hea
         count = λ z. c;
         atLeast = λ z. rw c (f .some);
         atMost = rw c (f .few);
-        short = λ z. hi;
-        first = ap (λ (r : HeaderRead). r .next .at) re;
+        first = λ z. (ap (λ (r : HeaderRead). r .next .at) re, hi);
       }

@@ -74,7 +74,7 @@ module _ (d : List ℕ) (h : QueryHeader) (he : QueryHeaderOf d h) (q : Question
       -- the questions are good
       module _ (qg : q .good ≡ true) where
         ends : q .next .at ≡ questionsEnd d
-        ends = rw asked at (qe .next qg)
+        ends = rw asked at (qe .next (he .atLeast hz) qg)
 
         opt-record-good : x .good ≡ goodOptRecord d (questionsEnd d)
         opt-record-good = rw ends at (xe .good)
@@ -125,7 +125,7 @@ module _ (d : List ℕ) (h : QueryHeader) (he : QueryHeaderOf d h) (q : Question
             pub holds : QueryOf d (record { number = h .number; desired = h .desired; count = h .count; questions = q .all; options = o .all; end = q .next .at; matched = matchOf (o .count) (h .count) (o .sized) })
             holds =
                 let g = sym (qe .good) ∙ qg in
-                let a = qe .all qg in
+                let a = qe .all (he .atLeast hz) qg in
                 let w = xe .within in
                 let f = xe .first xg in
                 record {
@@ -138,7 +138,7 @@ module _ (d : List ℕ) (h : QueryHeader) (he : QueryHeaderOf d h) (q : Question
                   placed = λ i e l. rw a (questions.holds-placed d (h .count) g i e l);
                   len = λ i e l. rw a (questions.holds-len d (h .count) g i e l);
                   end = ends;
-                  from = rw (qe .next qg) (start-min d (h .count));
+                  from = rw (qe .next (he .atLeast hz) qg) (start-min d (h .count));
                   within = omega arith;
                   matched = match-is;
                   option = λ y i e l.

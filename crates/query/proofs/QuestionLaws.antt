@@ -1,5 +1,5 @@
 -- Laws of the questions that a loop reads, one after the other. Assumes nothing.
-use Prim.Native.Nat.{ℕ, _+_, _≤_, _<_}
+use Prim.Native.Nat.{ℕ, zero, suc, _+_, _≤_, _<_}
 use mathlib.Core.Path.{_≡_, refl, sym, ap, _∙_}
 use mathlib.Core.List.{List}
 use mathlib.Core.Bool.{true, false, _&&_}
@@ -57,7 +57,7 @@ module _ (d : List ℕ) where
       let y = ap (λ (q : Question). q .len) (q .1) in
       (omega arith, omega arith)
 
-  -- what the loop knows at a place, i questions on
+  -- what the loop knows at a place, i questions on, where there are some to read
   pub record Passed (i at : ℕ) (all : List Question) : Type 0 where
     pub good : goodQuestions d i ≡ true
     pub start : at ≡ questionStart d i
@@ -67,23 +67,29 @@ module _ (d : List ℕ) where
   passed-none at all f e =
       record { good = good-none; start = f ∙ sym start-first; stored = e ∙ sym (rw (upTo-none (recordOf d)) (pad-none 8 blankQuestion)) }
 
-  module _ (i at : ℕ) (all : List Question) (p : Passed i at all) where
+  module _ (m i at : ℕ) (all : List Question) (l : i < m) (f : 1 ≤ m → Passed i at all) where
+    p : Passed i at all
+    p = f (omega arith)
+
     -- a good question: it is stored, and the loop goes on at its end
-    pub passed-next : (q : Question) → i < 8 → goodQuestion d at ≡ true → q ≡ recordAt d at → Passed (i + 1) (questionEnd d at) (set all i q)
-    passed-next q l g e =
+    pub passed-next : (q : Question) → m ≤ 8 → goodQuestion d at ≡ true → q ≡ recordAt d at → Passed (i + 1) (questionEnd d at) (set all i q)
+    passed-next q n g e =
         record {
           good = good-next i ∙ and-both (goodQuestions d i) (goodQuestion d (questionStart d i)) (p .good) (rw (p .start) at g);
           start = ap (questionEnd d) (p .start) ∙ sym (start-next i);
-          stored = rw (e, p .stored, p .start) (array-next i l);
+          stored = rw (e, p .stored, p .start) (array-next i (omega arith));
         }
 
     -- a bad one
-    pub read-bad : (m : ℕ) → i < m → goodQuestion d at ≡ false → QuestionsRead d m (record { all = all; next = cursor at; good = false })
-    read-bad m l b = record { good = sym (bad-at m i l (rw (p .start) at b)); next = λ z. never z refl; all = λ z. never z refl }
+    pub read-bad : (n : ℕ) → goodQuestion d at ≡ false → QuestionsRead d m (record { all = all; next = cursor n; good = false })
+    read-bad n b = record { good = sym (bad-at m i l (rw (p .start) at b)); next = λ s z. never z refl; all = λ s z. never z refl }
 
-    -- all m are read
-    pub read-end : (m : ℕ) → i ≡ m → QuestionsRead d m (record { all = all; next = cursor at; good = true })
-    read-end m e = record { good = sym (rw e at (p .good)); next = λ z. rw e at (p .start); all = λ z. rw e at (p .stored) }
+  -- all m are read
+  pub read-end : (m i at : ℕ) (all : List Question) → i ≡ m → (1 ≤ m → Passed i at all) → QuestionsRead d m (record { all = all; next = cursor at; good = true })
+  read-end zero i at all e f = record { good = sym good-none; next = λ s z. absurd (omega arith); all = λ s z. absurd (omega arith) }
+  read-end (suc m) i at all e f =
+      let p = f (omega arith) in
+      record { good = sym (rw e at (p .good)); next = λ s z. rw e at (p .start); all = λ s z. rw e at (p .stored) }
 
   -- question i in the array is the model's, and its name is of at most 255 bytes, in the datagram
   module _ (m : ℕ) (g : goodQuestions d m ≡ true) (i : ℕ) (e : Question) (l : i < m) where

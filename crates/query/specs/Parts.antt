@@ -26,14 +26,14 @@ goodFields h =
     eqb (h .flags / 128 % 2) 0 && eqb (h .flags / 8 % 16) 0 && eqb (h .flags / 2 % 2) 0 && (leb 1 (h .qdcount) && leb (h .qdcount) 8)
     && eqb (h .ancount) 0 && eqb (h .nscount) 0 && eqb (h .arcount) 1
 
-abbrev pub refusedHeader : ℕ → QueryHeader
-refusedHeader k = record { refused = k; number = record { 0 = 0 }; desired = 0; count = 0; first = cursor 12 }
+abbrev pub refusedHeader : ℕ → ℕ → QueryHeader
+refusedHeader k end = record { refused = k; number = record { 0 = 0 }; desired = 0; count = 0; first = cursor end }
 
 -- refusals 3 and 4
 unfoldable pub headerRefusal : List ℕ → ℕ
 headerRefusal d = refusal ((3, wrongSize d) ∷ (4, not (goodHeader d)) ∷ [])
 
--- the fields where it is not refused; in any case questions that can be read
+-- the fields where it is not refused; questions, if any, that can be read
 pub record QueryHeaderOf (d : List ℕ) (r : QueryHeader) : Type 0 where
   pub refused : r .refused ≡ headerRefusal d
   pub number : r .refused ≡ 0 → r .number .0 ≡ messageNumber d
@@ -41,8 +41,7 @@ pub record QueryHeaderOf (d : List ℕ) (r : QueryHeader) : Type 0 where
   pub count : r .refused ≡ 0 → r .count ≡ qdcount d
   pub atLeast : r .refused ≡ 0 → 1 ≤ r .count
   pub atMost : r .count ≤ 8
-  pub short : 1 ≤ r .count → length d ≤ 1472
-  pub first : r .first .at ≡ 12
+  pub first : 1 ≤ r .count → (r .first .at ≡ 12) × (length d ≤ 1472)
 
 -- QUESTIONS
 
@@ -59,8 +58,8 @@ firstQuestions d m = padded 8 blankQuestion (upTo m (recordOf d))
 
 pub record QuestionsRead (d : List ℕ) (m : ℕ) (r : Questions) : Type 0 where
   pub good : r .good ≡ goodQuestions d m
-  pub next : r .good ≡ true → r .next .at ≡ questionStart d m
-  pub all : r .good ≡ true → r .all ≡ firstQuestions d m
+  pub next : 1 ≤ m → r .good ≡ true → r .next .at ≡ questionStart d m
+  pub all : 1 ≤ m → r .good ≡ true → r .all ≡ firstQuestions d m
 
 -- THE OPT RECORD
 

@@ -16,7 +16,7 @@ use wire::OptionRead;
 use wire::Question;
 use wire::QuestionRead;
 
-// What the header tells of a query: the refusal's number, 3 or 4, or 0; the message number and the RD bit; how many questions are to be read, none where it is refused, and from where.
+// What the header tells of a query: the refusal's number, 3 or 4, or 0; the message number and the RD bit; how many questions there are to read, and from where.
 pub struct QueryHeader {
     pub refused: u32,
     pub number: MessageNumber,
@@ -25,14 +25,14 @@ pub struct QueryHeader {
     pub first: Cursor,
 }
 
-// The questions: the first eight by value, the place behind them, and whether all are good. An array beside a verdict: an enum cannot hold it.
+// The questions: the first eight by value, the place behind them, and whether all are good; where one is bad the place is the datagram's end. An array beside a verdict: an enum cannot hold it.
 pub struct Questions {
     pub all: [Question; 8],
     pub next: Cursor,
     pub good: bool,
 }
 
-// Where the options start, and whether an OPT record stands before them. Where there is none they start at the end.
+// Where the options start, and whether an OPT record stands before them; where there is none the place is the datagram's end.
 pub struct OptFound {
     pub first: Cursor,
     pub good: bool,
@@ -99,16 +99,16 @@ fn question_count(s: &[u8]) -> usize
     s[5] as usize
 }
 
-// A refused header has no questions read.
-fn refuse(number: u32) -> QueryHeader
-    ensures { λ r. ⌜ r ≡ refusedHeader number ⌝ }
+// A refused header leaves nothing to read: no question, and the place is the datagram's end.
+fn refuse(number: u32, end: usize) -> QueryHeader
+    ensures { λ r. ⌜ r ≡ refusedHeader number end ⌝ }
 {
     QueryHeader {
         refused: number,
         number: MessageNumber(0),
         desired: 0,
         count: 0,
-        first: Cursor { at: HEADER_LEN },
+        first: Cursor { at: end },
     }
 }
 
@@ -117,16 +117,16 @@ pub fn read_header(d: &[u8]) -> QueryHeader
     ensures { λ r. ⌜ QueryHeaderOf (now (d .entry)) r ⌝ }
 {
     if d.len() < HEADER_LEN {
-        return refuse(3);
+        return refuse(3, d.len());
     }
     if d.len() > 1472 {
-        return refuse(3);
+        return refuse(3, d.len());
     }
     let start = Cursor { at: 0 };
     let r = start.header(d);
     let h = r.header;
     if !good_header(h) {
-        return refuse(4);
+        return refuse(4, d.len());
     }
     let number = h.number;
     let first = r.next;
@@ -165,7 +165,7 @@ pub fn blank_option() -> LlqOption
 
 // Refusal 5: count questions from the header's end. Where some are read the datagram is short enough that its places fit 16 bits.
 pub fn read_questions(s: &[u8], first: Cursor, count: usize) -> Questions
-    requires { ⌜ (count ≤ 8) × (first .at ≡ 12) × (1 ≤ count → length (now s) ≤ 1472) ⌝ }
+    requires { ⌜ (count ≤ 8) × (1 ≤ count → (first .at ≡ 12) × (length (now s) ≤ 1472)) ⌝ }
     ensures { λ r. ⌜ QuestionsRead (now (s .entry)) count r ⌝ }
 {
     let none = blank_question();
@@ -195,7 +195,7 @@ pub fn read_questions(s: &[u8], first: Cursor, count: usize) -> Questions
             QuestionRead::Bad => {
                 return Questions {
                     all,
-                    next: c,
+                    next: Cursor { at: s.len() },
                     good: false,
                 };
             }
@@ -310,7 +310,7 @@ fn matches(count: usize, asked: usize, sized: bool) -> bool
     sized
 }
 
-// Refusals 3 to 7, or the query that the datagram is. Each part is read also where one before it is refused: with one way through, the arrays are filled in one place and copied only where the options are served.
+// Refusals 3 to 7, or the query that the datagram is. A part that is refused hands on the datagram's end, where nothing is left to read. So there is one way through, and the arrays are filled in one place and copied only where the options are served.
 pub fn parse(d: &[u8]) -> Parsed
     ensures { λ r. ⌜ Reads (now (d .entry)) r ⌝ }
 {

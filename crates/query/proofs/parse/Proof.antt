@@ -10,7 +10,7 @@ read-header-requires : tie.Need-read-header-requires
 read-header-requires c κs = search needs
 
 read-questions-requires : tie.Need-read-questions-requires
-read-questions-requires c κs = let h = c .read-header .ensures in (h .atMost, h .first, h .short)
+read-questions-requires c κs = let h = c .read-header .ensures in (h .atMost, h .first)
 
 find-opt-requires : tie.Need-find-opt-requires
 find-opt-requires c κs = search needs
