@@ -9,7 +9,7 @@ ghost use lib.ListN.{length};
 ghost use lib.Dec.{eqb, leb};
 ghost use Rattle.model.specs.Lists.{count, indexOf};
 ghost use Rattle.model.specs.Clock.{ageAt, runOut};
-ghost use Rattle.model.specs.Table.{slotAt, sizeOf, slotsIn, readEntry, readSlot, readTable};
+ghost use Rattle.model.specs.Table.{slotAt, sizeOf, readEntry, readSlot, readTable};
 ghost use Rattle.model.specs.Rules.{holdings, numbered, asks, full, freshNumber};
 ghost use Rattle.model.specs.Serve.{isFree, findEntry, slotRunOut, answers, refreshes};
 ghost use Rattle.wire.specs.Records.{questionOf};
@@ -44,7 +44,7 @@ pub enum Found {
 }
 
 // Slot i as it is stored.
-pub fn entry_at(t: &[u8], i: usize) -> Entry
+fn entry_at(t: &[u8], i: usize) -> Entry
     requires { ⌜ slotAt (i + 1) ≤ length (now t) ⌝ }
     ensures { λ r. ⌜ r ≡ entryAt (now (t .entry)) (slotAt i) ⌝ }
 {

@@ -76,14 +76,14 @@ pub fn slot_shape(t: &[u8], a: usize) -> bool
     let mut from: usize = 1;
     if in_use(kind) {
         from = layout::NAME_AT + t[a + layout::NAME_LENGTH_AT] as usize;
-    } else if kind != layout::FREE_KIND {
+    } else if kind != kind_byte(State::Free) {
         return false;
     }
     octets::zeros(t, a + from, layout::SLOT - from)
 }
 
 // 2 * 2^56: the kind 2 and seven zeros.
-const UNUSED_HEAD: u64 = 144115188075855872;
+const UNUSED_HEAD: u64 = layout::UNUSED_KIND as u64 * 72057594037927936;
 
 // An unused roster line: its 19 bytes as three numbers of 8 that lie over each other.
 pub fn unused_shape(t: &[u8], a: usize) -> bool
@@ -120,7 +120,8 @@ pub fn valid_entry(t: &[u8], a: usize, running: u32) -> bool
     requires { ⌜ (a + 320 ≤ length (now t)) × (running ≡ bigEndian (now t) 5 4) ⌝ }
     ensures { λ r. ⌜ r ≡ validEntry (holdingAt (now (t .entry)) a) ⌝ }
 {
-    if octets::get64(t, a + layout::NUMBER_AT) == 0 {
+    let number = number_at(t, a);
+    if number.0 == 0 {
         return false;
     }
     let lease = octets::get32(t, a + layout::LEASE_AT);
@@ -150,7 +151,8 @@ pub fn has_number(t: &[u8], a: usize, number: LlqNumber) -> bool
     requires { ⌜ a + 320 ≤ length (now t) ⌝ }
     ensures { λ r. ⌜ r ≡ (inUse (getD (now (t .entry)) a 0) && numbered (number .0) (holdingAt (now (t .entry)) a)) ⌝ }
 {
-    if octets::get64(t, a + layout::NUMBER_AT) == number.0 {
+    let own = number_at(t, a);
+    if own.0 == number.0 {
         return in_use(t[a]);
     }
     false

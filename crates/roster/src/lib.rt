@@ -10,6 +10,9 @@ ghost use Rattle.model.specs.Rules.{limitOf, shareOf, shares};
 ghost use Rattle.model.specs.Sound.{validLine, sameAddress, soundRoster};
 ghost use Rattle.layout.specs.Shape.{all, unusedFrom, linesFrom, linesTo};
 
+// An address that is not listed has share 0 and this limit.
+pub const UNLISTED_LIMIT: u8 = 4;
+
 // How many of a table's lines are listed: those of kind 0x03 that stand first.
 pub fn listed_lines(t: &[u8]) -> usize
     requires { ⌜ 313 ≤ length (now t) ⌝ }
@@ -160,7 +163,7 @@ pub fn limit_of(t: &[u8], m: usize, hi: u64, lo: u64) -> usize
         }
         i += 1;
     }
-    4
+    UNLISTED_LIMIT as usize
 }
 
 // The address's share by a table's first m lines.

@@ -11,6 +11,9 @@ ghost use Prim.Native.Nat.{_≤_, _<_};
 ghost use lib.ListN.{length};
 ghost use Rattle.script.specs.Spelled.{nextAt};
 
+// The largest table.
+const TABLE: usize = layout::SLOTS_AT + layout::SLOT * layout::SLOTS_MOST;
+
 fn say(word: &[u8]) {
     io::write_all(1, word);
 }
@@ -58,7 +61,7 @@ fn say_answer(kind: u8, answer: &[u8])
     requires { ⌜ 12 ≤ length (now answer) ⌝ }
 {
     let number = octets::get32(answer, 0) as u64;
-    let gave = octets::get32(answer, 4) as u64;
+    let count = octets::get32(answer, 4) as u64;
     let sum = octets::get32(answer, 8) as u64;
     if kind == b'M' {
         say(b"make");
@@ -67,13 +70,13 @@ fn say_answer(kind: u8, answer: &[u8])
     if kind == b'T' {
         say(b"tick");
         say_number(number);
-        say_number(gave);
+        say_number(count);
     }
     if kind == b'S' {
         say(b"serve");
         say_number(number);
-        say_number(gave);
-        say_bytes(&answer[12..]);
+        say_number(count);
+        say_bytes(&answer[script::NUMBERS..]);
     }
     say_number(sum);
     say(b"\n");
@@ -89,7 +92,7 @@ fn say_answers(s: &[u8], answers: &[u8]) {
             return;
         }
         let end = to + n;
-        if n >= 12 {
+        if n >= script::NUMBERS {
             say_answer(s[at], &answers[to..end]);
         }
         to = end;
@@ -172,7 +175,7 @@ fn run_pieces(s: &[u8], table: &mut [u8], answers: &mut [u8]) {
 fn main() {
     let mut list = io::large_buffer();
     let n = io::read_full(0, &mut list);
-    let mut table = [0xEEu8; 20793];
+    let mut table = [0xEEu8; TABLE];
     let mut answers = io::large_buffer();
     run_pieces(&list[..n], &mut table, &mut answers);
 }

@@ -13,20 +13,20 @@ use Rattle.model.specs.Calls.{MakeCall, TickCall, ServeCall}
 use Rattle.model.proofs.NumberLaws.{big-lt, big-add, bytes-part}
 use Rattle.claims.specs.Tally.{Call, making, ticking, serving}
 use Rattle.claims.specs.Events.{Event, callOf, InRange, AllInRange}
-use Rattle.script.specs.Pin.{pinned, pinnedCalls}
-use Rattle.script.specs.Spelled.{kindAt, weekAt, secondAt, addressAt, portAt, randomAt, roomAt, sizeAt, bodyAt, nextAt, makeAt, tickAt, serveAt, callAt, callsFrom, callsIn}
+use Rattle.script.specs.Pin.{pinned, pinnedCalls, SpelledOut}
+use Rattle.script.specs.Spelled.{kindAt, weekAt, secondAt, addressAt, portAt, randomAt, roomAt, sizeAt, bodyAt, nextAt, makingAt, tickingAt, servingAt, callAt, callsFrom, callsIn}
 
 -- THE CALL of a record
 module _ (s : List ℕ) (at : ℕ) where
-  pub call-make : kindAt s at ≡ 77 → callAt s at ≡ making (makeAt s at) ∷ []
+  pub call-make : kindAt s at ≡ 77 → callAt s at ≡ making (makingAt s at) ∷ []
   unfolding callAt
   call-make e = rw e
 
-  pub call-tick : kindAt s at ≡ 84 → callAt s at ≡ ticking (tickAt s at) ∷ []
+  pub call-tick : kindAt s at ≡ 84 → callAt s at ≡ ticking (tickingAt s at) ∷ []
   unfolding callAt
   call-tick e = rw e
 
-  pub call-serve : kindAt s at ≡ 83 → callAt s at ≡ serving (serveAt s at) ∷ []
+  pub call-serve : kindAt s at ≡ 83 → callAt s at ≡ serving (servingAt s at) ∷ []
   unfolding callAt
   call-serve e = rw e
 
@@ -48,10 +48,10 @@ module _ (s : List ℕ) (at : ℕ) where
   body-read e p = let d : e - (at + 39) ≡ sizeAt s at = omega arith in rw d
 
   pub make-read : (w x e : ℕ) → w ≡ weekAt s at → x ≡ secondAt s at → e ≡ nextAt s at
-      → _≡_ {A = MakeCall} (record { week = w; second = x; roster = take (e - (at + 39)) (drop (at + 39) s) }) (makeAt s at)
+      → _≡_ {A = MakeCall} (record { week = w; second = x; roster = take (e - (at + 39)) (drop (at + 39) s) }) (makingAt s at)
   make-read w x e p q r = rw (body-read e r, p, q)
 
-  pub tick-read : (w x : ℕ) → w ≡ weekAt s at → x ≡ secondAt s at → _≡_ {A = TickCall} (record { week = w; second = x }) (tickAt s at)
+  pub tick-read : (w x : ℕ) → w ≡ weekAt s at → x ≡ secondAt s at → _≡_ {A = TickCall} (record { week = w; second = x }) (tickingAt s at)
   tick-read w x p q = rw (p, q)
 
   -- an address is its two halves
@@ -69,7 +69,7 @@ module _ (s : List ℕ) (at : ℕ) where
         datagram = take (e - (at + 39)) (drop (at + 39) s);
         room = n;
       })
-      (serveAt s at)
+      (servingAt s at)
   serve-read w x h l p r e n ew ex eh el ep er ee en = rw (body-read e ee, address-read h l eh el, ew, ex, ep, er, en)
 
 -- THE RECORDS BEFORE INDEX at spell the calls done; those from there on, of which there are at most so many, spell the rest
@@ -155,6 +155,6 @@ pub script-range : (s : List ℕ) → Bytes s → (es : List Event) → map call
 script-range s bytes es e = spelled-range es (subst AllSpelled (sym e) (calls-range s bytes (length s) 0))
 
 -- A SCRIPT WRITTEN OUT spells its calls
-pub spelled-out : callsIn pinned ≡ pinnedCalls
+pub spelled-out : SpelledOut
 unfolding pinned pinnedCalls callsFrom callAt bigEndian part
 spelled-out = refl

@@ -6,6 +6,7 @@ use lib.ListN.{replicate}
 use Rattle.model.specs.Numbers.{encode}
 use Rattle.claims.specs.Tally.{Call, making, ticking, serving}
 use Rattle.claims.specs.Events.{Event, made, ticked, served, numberOf, tableOf}
+use Rattle.claims.specs.Demand3.{countOf}
 
 -- a sum that every byte and its place go into
 unfoldable pub sumFrom : ℕ → List ℕ → ℕ
@@ -15,12 +16,6 @@ sumFrom c (b ∷ s) = sumFrom ((c * 257 + b) % 4294967291) s
 abbrev pub sumOf : List ℕ → ℕ
 sumOf s = sumFrom 0 s
 
--- what a call gives beside its number: how many entries a tick freed, the reply's length
-abbrev pub gave : Event → ℕ
-gave (made c k after) = 0
-gave (ticked c k freed after) = freed
-gave (served c lent k size after left) = size
-
 -- the whole reply buffer, the bytes beyond the reply too
 abbrev pub replyOf : Event → List ℕ
 replyOf (made c k after) = []
@@ -29,7 +24,7 @@ replyOf (served c lent k size after left) = left
 
 -- AN ANSWER: number 4, freed or length 4, the sum of the table after the call 4, the reply buffer
 abbrev pub answerBytes : Event → List ℕ
-answerBytes e = encode ((4, numberOf e) ∷ (4, gave e) ∷ (4, sumOf (tableOf e)) ∷ []) ++ replyOf e
+answerBytes e = encode ((4, numberOf e) ∷ (4, countOf e) ∷ (4, sumOf (tableOf e)) ∷ []) ++ replyOf e
 
 -- a reply buffer is lent filled with 0xAA
 abbrev pub Filled : Event → Type 0

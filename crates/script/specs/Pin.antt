@@ -1,8 +1,11 @@
 -- A script written out, and the calls that it spells. Assumes nothing.
 use Prim.Native.Nat.{ℕ}
+use mathlib.Core.Path.{_≡_}
 use mathlib.Core.List.{List, [], _∷_, _++_}
 use lib.ListN.{replicate}
 use Rattle.claims.specs.Tally.{Call, making, ticking, serving}
+use Rattle.claims.specs.CallBuilders.{makeAt, tickAt, datagramAt}
+use Rattle.script.specs.Spelled.{callsIn}
 
 -- a making on 633 bytes, a record that is no call, a tick, a datagram of three bytes from 192.0.2.5 port 5353, and a record that is not whole
 unfoldable pub pinned : List ℕ
@@ -15,15 +18,11 @@ pinned =
 
 unfoldable pub pinnedCalls : List Call
 pinnedCalls =
-    making (record { week = 1; second = 5; roster = [] })
-    ∷ ticking (record { week = 1; second = 260 })
-    ∷ serving
-    (record {
-      week = 1023;
-      second = 604799;
-      sender = record { address = 281473902969349; port = 5353 };
-      random = 9;
-      datagram = 18 ∷ 52 ∷ 1 ∷ [];
-      room = 60;
-    })
+    making (makeAt 1 5 [])
+    ∷ ticking (tickAt 1 260)
+    ∷ serving (datagramAt 1023 604799 (record { address = 281473902969349; port = 5353 }) 9 (18 ∷ 52 ∷ 1 ∷ []) 60)
     ∷ []
+
+-- THE CLAIM
+abbrev pub SpelledOut : Type 0
+SpelledOut = callsIn pinned ≡ pinnedCalls

@@ -7,6 +7,7 @@ use lib.Dec.{eqb, leb}
 use Rattle.model.specs.Numbers.{bigEndian, part}
 use Rattle.model.specs.Calls.{MakeCall, TickCall, ServeCall}
 use Rattle.claims.specs.Tally.{Call, making, ticking, serving}
+use Rattle.claims.specs.CallBuilders.{makeAt, tickAt, datagramAt}
 
 -- A RECORD at index at of a script s: a head of 39 bytes, its numbers big endian, and a body.
 -- In the head: kind 1, week 4, second 4, address 16, port 2, the host's number 8, room 2, size of the body 2.
@@ -46,29 +47,22 @@ nextAt s at = at + 39 + sizeAt s at
 
 -- ITS CALL
 
-abbrev pub makeAt : List ℕ → ℕ → MakeCall
-makeAt s at = record { week = weekAt s at; second = secondAt s at; roster = bodyAt s at }
+abbrev pub makingAt : List ℕ → ℕ → MakeCall
+makingAt s at = makeAt (weekAt s at) (secondAt s at) (bodyAt s at)
 
-abbrev pub tickAt : List ℕ → ℕ → TickCall
-tickAt s at = record { week = weekAt s at; second = secondAt s at }
+abbrev pub tickingAt : List ℕ → ℕ → TickCall
+tickingAt s at = tickAt (weekAt s at) (secondAt s at)
 
-abbrev pub serveAt : List ℕ → ℕ → ServeCall
-serveAt s at =
-    record {
-      week = weekAt s at;
-      second = secondAt s at;
-      sender = record { address = addressAt s at; port = portAt s at };
-      random = randomAt s at;
-      datagram = bodyAt s at;
-      room = roomAt s at;
-    }
+abbrev pub servingAt : List ℕ → ℕ → ServeCall
+servingAt s at =
+    datagramAt (weekAt s at) (secondAt s at) (record { address = addressAt s at; port = portAt s at }) (randomAt s at) (bodyAt s at) (roomAt s at)
 
 -- 'M' makes, 'T' ticks, 'S' serves; a record of any other kind is no call
 unfoldable pub callAt : List ℕ → ℕ → List Call
 callAt s at =
-    cond (eqb (kindAt s at) 77) (making (makeAt s at) ∷ [])
-    (cond (eqb (kindAt s at) 84) (ticking (tickAt s at) ∷ [])
-    (cond (eqb (kindAt s at) 83) (serving (serveAt s at) ∷ []) []))
+    cond (eqb (kindAt s at) 77) (making (makingAt s at) ∷ [])
+    (cond (eqb (kindAt s at) 84) (ticking (tickingAt s at) ∷ [])
+    (cond (eqb (kindAt s at) 83) (serving (servingAt s at) ∷ []) []))
 
 -- THE CALLS
 

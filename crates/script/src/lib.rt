@@ -8,14 +8,31 @@ ghost use lib.Dec.{leb};
 ghost use Rattle.model.specs.Numbers.{encode, splice};
 ghost use Rattle.model.specs.Meets.{ServeMeets};
 ghost use Rattle.claims.specs.Tally.{making, ticking, serving};
-ghost use Rattle.script.specs.Spelled.{nextAt, roomAt, makeAt, tickAt, serveAt, callAt, callsIn};
+ghost use Rattle.script.specs.Spelled.{nextAt, roomAt, makingAt, tickingAt, servingAt, callAt, callsIn};
 ghost use Rattle.script.specs.Answers.{sumOf, answersLength};
 ghost use Rattle.script.specs.Ran.{Carried, Runs};
 
-// A record's head; its body follows.
+// A record's head, with the places of its fields; its body follows.
 const HEAD: usize = 39;
+
+const WEEK_AT: usize = 1;
+
+const SECOND_AT: usize = 5;
+
+const HIGH_AT: usize = 9;
+
+const LOW_AT: usize = 17;
+
+const PORT_AT: usize = 25;
+
+const RANDOM_AT: usize = 27;
+
+const ROOM_AT: usize = 35;
+
+const SIZE_AT: usize = 37;
+
 // The three numbers of an answer, before the reply buffer.
-const NUMBERS: usize = 12;
+pub const NUMBERS: usize = 12;
 
 // Whether the script was carried out, and how many bytes its answers take in the lent buffer.
 pub struct Ran {
@@ -34,7 +51,7 @@ pub fn whole(s: &[u8], at: usize) -> bool
     if left < HEAD {
         return false;
     }
-    octets::get16(s, at + 37) as usize <= left - HEAD
+    octets::get16(s, at + SIZE_AT) as usize <= left - HEAD
 }
 
 // Where the record at index at ends.
@@ -42,7 +59,7 @@ pub fn next(s: &[u8], at: usize) -> usize
     requires { ⌜ nextAt (now s) at ≤ length (now s) ⌝ }
     ensures { λ r. ⌜ r ≡ nextAt (now (s .entry)) at ⌝ }
 {
-    at + HEAD + octets::get16(s, at + 37) as usize
+    at + HEAD + octets::get16(s, at + SIZE_AT) as usize
 }
 
 // A making's length of the table, or a datagram's of the reply buffer.
@@ -50,7 +67,7 @@ pub fn room(s: &[u8], at: usize) -> u16
     requires { ⌜ nextAt (now s) at ≤ length (now s) ⌝ }
     ensures { λ r. ⌜ r ≡ roomAt (now (s .entry)) at ⌝ }
 {
-    octets::get16(s, at + 35)
+    octets::get16(s, at + ROOM_AT)
 }
 
 // How many bytes its answer takes: none if it is no call.
@@ -111,12 +128,12 @@ fn sum(t: &[u8]) -> u32
 }
 
 // Number, freed or length, and the sum of the table.
-fn put_numbers(out: &mut [u8], at: usize, number: u32, gave: u32, sum: u32)
+fn put_numbers(out: &mut [u8], at: usize, number: u32, count: u32, sum: u32)
     requires { ⌜ at + 12 ≤ length (now out) ⌝ }
-    ensures { λ _. ⌜ now (out .exit) ≡ splice at 12 (encode ((4, number) ∷ (4, gave) ∷ (4, sum) ∷ [])) (now (out .entry)) ⌝ }
+    ensures { λ _. ⌜ now (out .exit) ≡ splice at 12 (encode ((4, number) ∷ (4, count) ∷ (4, sum) ∷ [])) (now (out .entry)) ⌝ }
 {
     octets::put32(out, at, number);
-    octets::put32(out, at + 4, gave);
+    octets::put32(out, at + 4, count);
     octets::put32(out, at + 8, sum);
 }
 
@@ -135,13 +152,13 @@ fn fill(reply: &mut [u8])
 
 fn make(s: &[u8], at: usize, t: &mut [u8], out: &mut [u8], to: usize) -> usize
     requires { ⌜ (nextAt (now s) at ≤ length (now s)) × (to + 12 ≤ length (now out)) ⌝ }
-    ensures { λ r. ⌜ Carried (making (makeAt (now (s .entry)) at) ∷ []) (now (t .entry)) (now (t .exit)) (now (out .entry)) (now (out .exit)) to r ⌝ }
+    ensures { λ r. ⌜ Carried (making (makingAt (now (s .entry)) at) ∷ []) (now (t .entry)) (now (t .exit)) (now (out .entry)) (now (out .exit)) to r ⌝ }
 {
     let body = at + HEAD;
     let end = next(s, at);
     let number = llq::llq_make(
-        octets::get32(s, at + 1),
-        octets::get32(s, at + 5),
+        octets::get32(s, at + WEEK_AT),
+        octets::get32(s, at + SECOND_AT),
         t,
         &s[body..end],
     );
@@ -151,9 +168,13 @@ fn make(s: &[u8], at: usize, t: &mut [u8], out: &mut [u8], to: usize) -> usize
 
 fn tick(s: &[u8], at: usize, t: &mut [u8], out: &mut [u8], to: usize) -> usize
     requires { ⌜ (nextAt (now s) at ≤ length (now s)) × (to + 12 ≤ length (now out)) ⌝ }
-    ensures { λ r. ⌜ Carried (ticking (tickAt (now (s .entry)) at) ∷ []) (now (t .entry)) (now (t .exit)) (now (out .entry)) (now (out .exit)) to r ⌝ }
+    ensures { λ r. ⌜ Carried (ticking (tickingAt (now (s .entry)) at) ∷ []) (now (t .entry)) (now (t .exit)) (now (out .entry)) (now (out .exit)) to r ⌝ }
 {
-    let r = llq::llq_tick(octets::get32(s, at + 1), octets::get32(s, at + 5), t);
+    let r = llq::llq_tick(
+        octets::get32(s, at + WEEK_AT),
+        octets::get32(s, at + SECOND_AT),
+        t,
+    );
     put_numbers(out, to, r.number, r.freed, sum(t));
     to + NUMBERS
 }
@@ -161,18 +182,18 @@ fn tick(s: &[u8], at: usize, t: &mut [u8], out: &mut [u8], to: usize) -> usize
 // A datagram served into a reply buffer, which is filled first.
 fn serve_into(s: &[u8], at: usize, t: &mut [u8], reply: &mut [u8]) -> llq::Served
     requires { ⌜ (nextAt (now s) at ≤ length (now s)) × (length (now reply) ≡ roomAt (now s) at) ⌝ }
-    ensures { λ r. ⌜ ServeMeets (serveAt (now (s .entry)) at) (now (t .entry)) (now (t .exit)) (replicate (roomAt (now (s .entry)) at) 170) (now (reply .exit)) (r .number) (r .length) ⌝ }
+    ensures { λ r. ⌜ ServeMeets (servingAt (now (s .entry)) at) (now (t .entry)) (now (t .exit)) (replicate (roomAt (now (s .entry)) at) 170) (now (reply .exit)) (r .number) (r .length) ⌝ }
 {
     let body = at + HEAD;
     let end = next(s, at);
     fill(reply);
     llq::llq_serve(
-        octets::get32(s, at + 1),
-        octets::get32(s, at + 5),
-        octets::get64(s, at + 9),
-        octets::get64(s, at + 17),
-        octets::get16(s, at + 25),
-        octets::get64(s, at + 27),
+        octets::get32(s, at + WEEK_AT),
+        octets::get32(s, at + SECOND_AT),
+        octets::get64(s, at + HIGH_AT),
+        octets::get64(s, at + LOW_AT),
+        octets::get16(s, at + PORT_AT),
+        octets::get64(s, at + RANDOM_AT),
         &s[body..end],
         t,
         reply,
@@ -181,7 +202,7 @@ fn serve_into(s: &[u8], at: usize, t: &mut [u8], reply: &mut [u8]) -> llq::Serve
 
 fn serve(s: &[u8], at: usize, t: &mut [u8], out: &mut [u8], to: usize) -> usize
     requires { ⌜ (nextAt (now s) at ≤ length (now s)) × (to + 12 + roomAt (now s) at ≤ length (now out)) ⌝ }
-    ensures { λ r. ⌜ Carried (serving (serveAt (now (s .entry)) at) ∷ []) (now (t .entry)) (now (t .exit)) (now (out .entry)) (now (out .exit)) to r ⌝ }
+    ensures { λ r. ⌜ Carried (serving (servingAt (now (s .entry)) at) ∷ []) (now (t .entry)) (now (t .exit)) (now (out .entry)) (now (out .exit)) to r ⌝ }
 {
     let first = to + NUMBERS;
     let last = first + room(s, at) as usize;

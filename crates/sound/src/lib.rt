@@ -16,6 +16,9 @@ ghost use Rattle.layout.specs.Shape.{all, slotShape, linesTo, tableShape};
 ghost use Rattle.layout.specs.Held.{holdingAt, heldTo, okAt};
 ghost use Rattle.sound.specs.Holders.{holderSound, holdersSound, beyondShare, entryBeyondShare, entriesSound};
 
+// No slot: behind the last that a table can have.
+const NONE: u8 = layout::SLOTS_MOST as u8;
+
 // As many slots are few: all pairs of their entries are compared.
 const FEW: usize = 8;
 
@@ -130,12 +133,12 @@ fn earlier(first: u8, i: usize) -> usize
     i
 }
 
-// No two entries have one number. first[x] is the first slot whose entry's number ends in the byte x, and 64 where there is none: entries of one number end in the same byte, so those below that slot need not be looked at.
+// No two entries have one number. first[x] is the first slot whose entry's number ends in the byte x, and NONE where there is none: entries of one number end in the same byte, so those below that slot need not be looked at.
 fn numbers_apart(t: &[u8], n: usize) -> bool
     requires { ⌜ (n ≤ 64) × (slotAt n ≤ length (now t)) ⌝ }
     ensures { λ r. ⌜ r ≡ noTwo sameNumber (heldTo (now (t .entry)) n) ⌝ }
 {
-    let mut first = [64u8; 256];
+    let mut first = [NONE; 256];
     let mut i: usize = 0;
     while i < n {
         let a = layout::SLOTS_AT + layout::SLOT * i;
@@ -157,7 +160,7 @@ fn holders_sound(t: &[u8], n: usize, m: usize) -> bool
     requires { ⌜ (n ≤ 64) × (m ≤ 16) × (slotAt n ≤ length (now t)) × (every validLine (linesTo (now t) m) ≡ true) ⌝ }
     ensures { λ r. ⌜ r ≡ holdersSound (now (t .entry)) (linesTo (now (t .entry)) m) n ⌝ }
 {
-    let mut first = [64u8; 256];
+    let mut first = [NONE; 256];
     let mut i: usize = 0;
     while i < n {
         let a = layout::SLOTS_AT + layout::SLOT * i;
@@ -201,7 +204,7 @@ fn address_beyond_share(t: &[u8], m: usize, k: usize, hi: u64, lo: u64) -> usize
         }
         i += 1;
     }
-    beyond_share(0, 4, k)
+    beyond_share(0, roster::UNLISTED_LIMIT, k)
 }
 
 // The same of the entry at c, with those below slot i; 2 also where one of them has its number, or its address and question: number and holder are looked at in one walk.

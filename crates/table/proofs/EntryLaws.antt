@@ -13,7 +13,7 @@ use Rattle.model.proofs.NumberLaws.{splice-splice, splice-on, splice-all, lengt
 use Rattle.model.proofs.ListLaws.{length-map}
 use Rattle.entries.specs.declared.Entry.{Entry}
 use Rattle.record.specs.declared.State.the-variants.{Pending}
-use Rattle.table.specs.Stored.{kindToNumber, kindToNumberHalves, leaseToClass, nameBytes, entryBytes, storedAs}
+use Rattle.table.specs.Stored.{holderFields, holderHalves, leaseFields, nameBytes, entryBytes, storedAs}
 
 -- a number's bytes in two parts
 bytes-add : (j k x y : ℕ) → y < 256 ^ k → bytesOf (j + k) (x * 256 ^ k + y) ≡ bytesOf j x ++ bytesOf k y
@@ -26,7 +26,7 @@ bytes-add j (suc k) x y h =
     let m : (x * 256 ^ k * 256 + y) % 256 ≡ y % 256 = omega arith in
     rw (add-suc, pow-suc, p, d, m, bytes-add j k x (y / 256) (omega arith), append-assoc)
 
-pub halves-written : (e : Entry) → e .low < 2 ^ 64 → encode (kindToNumberHalves e) ≡ encode (kindToNumber e)
+pub halves-written : (e : Entry) → e .low < 2 ^ 64 → encode (holderHalves e) ≡ encode (holderFields e)
 unfolding encode
 halves-written e h = rw (bytes-add 8 8 (e .high) (e .low) h, append-assoc)
 
@@ -45,13 +45,13 @@ name-bytes s name n e h l =
     rw (e, a, p, z, q, append-assoc)
 
 pub entry-bytes : (s : List ℕ) (e : Entry) (name : List ℕ) → length s ≡ 320 → length name ≤ 255
-    → splice 39 281 (nameBytes name) (splice 27 12 (encode (leaseToClass e)) (splice 0 27 (encode (kindToNumber e)) s)) ≡ entryBytes e name
+    → splice 39 281 (nameBytes name) (splice 27 12 (encode (leaseFields e)) (splice 0 27 (encode (holderFields e)) s)) ≡ entryBytes e name
 unfolding entryBytes
 entry-bytes s e name h l =
-    let a = splice-on 27 12 (encode (kindToNumber e)) (encode (leaseToClass e)) s (length-encode (kindToNumber e)) (omega arith) in
-    let ln : length (encode (kindToNumber e) ++ encode (leaseToClass e)) ≡ 39 =
-    length-append (encode (kindToNumber e)) (encode (leaseToClass e)) ∙ (rw (length-encode (kindToNumber e), length-encode (leaseToClass e))) in
-    let b = splice-on 39 281 (encode (kindToNumber e) ++ encode (leaseToClass e)) (nameBytes name) s ln (omega arith) in
+    let a = splice-on 27 12 (encode (holderFields e)) (encode (leaseFields e)) s (length-encode (holderFields e)) (omega arith) in
+    let ln : length (encode (holderFields e) ++ encode (leaseFields e)) ≡ 39 =
+    length-append (encode (holderFields e)) (encode (leaseFields e)) ∙ (rw (length-encode (holderFields e), length-encode (leaseFields e))) in
+    let b = splice-on 39 281 (encode (holderFields e) ++ encode (leaseFields e)) (nameBytes name) s ln (omega arith) in
     rw (a, b) (splice-all 320 _ s h)
 
 -- a pending entry's bytes are the model's

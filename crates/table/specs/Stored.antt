@@ -11,16 +11,16 @@ use Rattle.entries.specs.declared.Entry.{Entry}
 use Rattle.entries.specs.Reads.{addressOf}
 
 -- kind, address, port and number
-abbrev pub kindToNumber : Entry → List (ℕ × ℕ)
-kindToNumber e = (1, kindByte (e .state)) ∷ (16, addressOf (e .high) (e .low)) ∷ (2, e .port) ∷ (8, e .number .0) ∷ []
+abbrev pub holderFields : Entry → List (ℕ × ℕ)
+holderFields e = (1, kindByte (e .state)) ∷ (16, addressOf (e .high) (e .low)) ∷ (2, e .port) ∷ (8, e .number .0) ∷ []
 
 -- as the code writes them: the address in two halves
-abbrev pub kindToNumberHalves : Entry → List (ℕ × ℕ)
-kindToNumberHalves e = (1, kindByte (e .state)) ∷ (8, e .high) ∷ (8, e .low) ∷ (2, e .port) ∷ (8, e .number .0) ∷ []
+abbrev pub holderHalves : Entry → List (ℕ × ℕ)
+holderHalves e = (1, kindByte (e .state)) ∷ (8, e .high) ∷ (8, e .low) ∷ (2, e .port) ∷ (8, e .number .0) ∷ []
 
 -- lease, stamp, type and class
-abbrev pub leaseToClass : Entry → List (ℕ × ℕ)
-leaseToClass e = (4, e .lease) ∷ (4, e .stamp) ∷ (2, e .qtype) ∷ (2, e .qclass) ∷ []
+abbrev pub leaseFields : Entry → List (ℕ × ℕ)
+leaseFields e = (4, e .lease) ∷ (4, e .stamp) ∷ (2, e .qtype) ∷ (2, e .qclass) ∷ []
 
 -- the name's length, the name and zeros
 abbrev pub nameBytes : List ℕ → List ℕ
@@ -28,7 +28,7 @@ nameBytes name = bytesOf 1 (length name) ++ (name ++ replicate (280 - length nam
 
 -- an entry's 320 bytes
 unfoldable pub entryBytes : Entry → List ℕ → List ℕ
-entryBytes e name = (encode (kindToNumber e) ++ encode (leaseToClass e)) ++ nameBytes name
+entryBytes e name = (encode (holderFields e) ++ encode (leaseFields e)) ++ nameBytes name
 
 -- the model's entry, pending or established
 abbrev pub storedAs : Bool → Entry → List ℕ → table.Entry

@@ -15,12 +15,12 @@ ghost use Rattle.model.specs.Table.{slotAt, lineAt, sizeOf, readTable, tableByt
 ghost use Rattle.model.specs.Serve.{ended, slotRunOut, movedOn, freeRunOut};
 ghost use Rattle.model.specs.Calls.{freedBy, goodRoster};
 ghost use Rattle.table.specs.Written.{WellFormed, Written};
-ghost use Rattle.table.specs.Stored.{kindToNumber, leaseToClass, nameBytes, entryBytes};
+ghost use Rattle.table.specs.Stored.{holderFields, leaseFields, nameBytes, entryBytes};
 ghost use Rattle.table.specs.Fresh.{unusedLines, freeSlots, fresh};
 
 // WRITERS OF A SLOT
 
-// An entry ends: slot i becomes free. Nothing else but making frees a slot.
+// An entry ends: slot i becomes free. Every slot that is freed is freed here, a made table's too.
 pub fn end_entry(t: &mut [u8], i: usize)
     requires { ⌜ slotAt (i + 1) ≤ length (now t) ⌝ }
     ensures { λ _. ⌜ now (t .exit) ≡ splice (slotAt i) 320 (slotBytes ended) (now (t .entry)) ⌝ }
@@ -31,9 +31,9 @@ pub fn end_entry(t: &mut [u8], i: usize)
 }
 
 // Kind, address, port and number.
-fn put_kind_to_number(s: &mut [u8], e: Entry)
+fn put_holder_fields(s: &mut [u8], e: Entry)
     requires { ⌜ length (now s) ≡ 320 ⌝ }
-    ensures { λ _. ⌜ now (s .exit) ≡ splice 0 27 (encode (kindToNumber e)) (now (s .entry)) ⌝ }
+    ensures { λ _. ⌜ now (s .exit) ≡ splice 0 27 (encode (holderFields e)) (now (s .entry)) ⌝ }
 {
     let state = e.state;
     let number = e.number;
@@ -45,9 +45,9 @@ fn put_kind_to_number(s: &mut [u8], e: Entry)
 }
 
 // Lease, stamp, type, class.
-fn put_lease_to_class(s: &mut [u8], e: Entry)
+fn put_lease_fields(s: &mut [u8], e: Entry)
     requires { ⌜ length (now s) ≡ 320 ⌝ }
-    ensures { λ _. ⌜ now (s .exit) ≡ splice 27 12 (encode (leaseToClass e)) (now (s .entry)) ⌝ }
+    ensures { λ _. ⌜ now (s .exit) ≡ splice 27 12 (encode (leaseFields e)) (now (s .entry)) ⌝ }
 {
     octets::put32(s, layout::LEASE_AT, e.lease);
     octets::put32(s, layout::STAMP_AT, e.stamp);
@@ -71,8 +71,8 @@ fn put_slot(s: &mut [u8], e: Entry, d: &[u8], at: usize)
     requires { ⌜ (length (now s) ≡ 320) × (at + e .len ≤ length (now d)) ⌝ }
     ensures { λ _. ⌜ now (s .exit) ≡ entryBytes e (map fold (part at (e .len) (now (d .entry)))) ⌝ }
 {
-    put_kind_to_number(s, e);
-    put_lease_to_class(s, e);
+    put_holder_fields(s, e);
+    put_lease_fields(s, e);
     put_name(s, e.len, d, at);
 }
 

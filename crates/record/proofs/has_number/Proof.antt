@@ -11,14 +11,11 @@ use Rattle.record.proofs.has_number.Statement.{statement}
 use Rattle.record.proofs.has_number.Tie as tie
 use Rattle.record.proofs.has_number.Reads as reads
 use Rattle.record.proofs.has_number.Lts as lts
-use Rattle.octets.proofs.get64.Reads as get64-reads
+use Rattle.record.proofs.number_at.Reads as number-at-reads
 use Rattle.record.proofs.in_use.Reads as in-use-reads
 
-add-get64 : tie.Need-add-get64
-add-get64 c = search needs
-
-get64-requires : tie.Need-get64-requires
-get64-requires c κs = search needs
+number-at-requires : tie.Need-number-at-requires
+number-at-requires c κs = search needs
 
 shared-slice-read-in-use : tie.Need-shared-slice-read-in-use
 shared-slice-read-in-use c = search needs
@@ -28,13 +25,13 @@ in-use-requires c κs = search needs
 
 returns : tie.Need-returns
 unfolding holdingAt readEntry
-returns c = rw (← c .before .before .before .before .get64 .ensures, eq-eqb _ _ (c .before .before .if1 .taken), and-true) (c .in-use .ensures)
+returns c = rw (← c .before .before .before .before .before .number-at .ensures, eq-eqb _ _ (c .before .before .if1 .taken), and-true) (c .in-use .ensures)
 
 returns-2 : tie.Need-returns-2
 unfolding holdingAt readEntry
-returns-2 c = rw (← c .before .before .get64 .ensures, ne-eqb _ _ (c .if1 .left)) (sym (and-false (inUse (getD (c .before .before .before .before .args .t .now) (c .before .before .before .before .args .a) 0))))
+returns-2 c = rw (← c .before .before .before .number-at .ensures, ne-eqb _ _ (c .if1 .left)) (sym (and-false (inUse (getD (c .before .before .before .before .before .args .t .now) (c .before .before .before .before .before .args .a) 0))))
 
 pub has-number-spec : {M : Type 1} → statement M
 has-number-spec =
     tie.close
-    (tie.spec add-get64 get64-requires shared-slice-read-in-use in-use-requires returns returns-2)
+    (tie.spec number-at-requires shared-slice-read-in-use in-use-requires returns returns-2)

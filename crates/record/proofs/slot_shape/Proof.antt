@@ -13,6 +13,7 @@ use Rattle.record.proofs.slot_shape.Reads as reads
 use Rattle.record.proofs.slot_shape.Lts as lts
 use Rattle.octets.proofs.zeros.Reads as zeros-reads
 use Rattle.record.proofs.in_use.Reads as in-use-reads
+use Rattle.record.proofs.kind_byte.Reads as kind-byte-reads
 
 shared-slice-read-kind : tie.Need-shared-slice-read-kind
 shared-slice-read-kind c = search needs
@@ -32,9 +33,14 @@ cast-from c = omega (arith, c .shared-slice-known3 .given (c .before .before .be
 add-from-2 : tie.Need-add-from-2
 add-from-2 c = omega (arith, c .shared-slice-known3 .given (c .before .before .before .before .before .args .a + 39))
 
+kind-byte-requires : tie.Need-kind-byte-requires
+kind-byte-requires c κs = search needs
+
 returns : tie.Need-returns
 unfolding slotShape
-returns c = rw (sym (c .before .before .in-use .ensures) ∙ c .before .if1 .left, ne-eqb _ _ (c .if2 .taken))
+returns c =
+    let k = c .before .kind-byte .ensures in
+    rw (sym (c .before .before .before .in-use .ensures) ∙ c .before .before .if1 .left, ne-eqb _ _ (λ z. c .if2 .taken (z ∙ sym k)))
 
 sub-zeros : tie.Need-sub-zeros
 sub-zeros c =
@@ -61,7 +67,7 @@ returns-2 c =
     let e : a .a + from ≡ a .a + 40 + len = omega (arith, w .2) in
     let f : 320 - from ≡ 280 - len = omega (arith, w .2) in
     rw (u ∙ w .0 .taken) (rw (e, f) at (c .zeros .ensures)))
-    (λ w. rw (u ∙ w .0 .left, eq-eqb _ _ (w .1 .left)) (rw (w .2) at (c .zeros .ensures)))
+    (λ w. rw (u ∙ w .0 .left, eq-eqb _ _ (w .2 .left ∙ w .1 .ensures)) (rw (w .3) at (c .zeros .ensures)))
     (c .before .before .if1 .came)
 
 pub slot-shape-spec : {M : Type 1} → statement M
@@ -74,6 +80,7 @@ slot-shape-spec =
     shared-slice-read-from
     cast-from
     add-from-2
+    kind-byte-requires
     returns
     add-zeros
     sub-zeros

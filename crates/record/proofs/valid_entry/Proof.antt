@@ -11,18 +11,15 @@ use Rattle.record.proofs.valid_entry.Reads as reads
 use Rattle.record.proofs.valid_entry.Lts as lts
 use Rattle.clock.proofs.age.Reads as age-reads
 use Rattle.octets.proofs.get32.Reads as get32-reads
-use Rattle.octets.proofs.get64.Reads as get64-reads
+use Rattle.record.proofs.number_at.Reads as number-at-reads
 use Rattle.names.proofs.lower_name.Reads as lower-name-reads
 
-add-get64 : tie.Need-add-get64
-add-get64 c = search needs
-
-get64-requires : tie.Need-get64-requires
-get64-requires c κs = search needs
+number-at-requires : tie.Need-number-at-requires
+number-at-requires c κs = search needs
 
 returns : tie.Need-returns
 unfolding holdingAt readEntry
-returns c = rw (← c .before .get64 .ensures, eq-eqb _ _ (c .if1 .taken))
+returns c = rw (← c .before .before .number-at .ensures, eq-eqb _ _ (c .if1 .taken))
 
 add-get32 : tie.Need-add-get32
 add-get32 c = search needs
@@ -32,13 +29,13 @@ get32-requires c κs = search needs
 
 returns-2 : tie.Need-returns-2
 unfolding holdingAt readEntry
-returns-2 c = rw (← c .before .before .before .get64 .ensures, ne-eqb _ _ (c .before .before .if1 .left), ← c .before .get32 .ensures, lt-leb _ _ (c .if2 .taken))
+returns-2 c = rw (← c .before .before .before .before .number-at .ensures, ne-eqb _ _ (c .before .before .if1 .left), ← c .before .get32 .ensures, lt-leb _ _ (c .if2 .taken))
 
 returns-3 : tie.Need-returns-3
 unfolding holdingAt readEntry
 returns-3 c =
     rw (
-      ← c .before .before .before .before .get64 .ensures,
+      ← c .before .before .before .before .before .number-at .ensures,
       ne-eqb _ _ (c .before .before .before .if1 .left),
       ← c .before .before .get32 .ensures,
       le-leb _ _ (c .before .if2 .left),
@@ -58,12 +55,12 @@ returns-4 : tie.Need-returns-4
 unfolding holdingAt readEntry
 returns-4 c =
     rw (
-      ← c .before .before .before .before .before .before .before .get64 .ensures,
+      ← c .before .before .before .before .before .before .before .before .number-at .ensures,
       ne-eqb _ _ (c .before .before .before .before .before .before .if1 .left),
       ← c .before .before .before .before .before .get32 .ensures,
       le-leb _ _ (c .before .before .before .before .if2 .left),
       le-leb _ _ (c .before .before .before .if3 .left),
-      ← c .before .before .before .before .before .before .before .before .before .pre .1,
+      ← c .before .before .before .before .before .before .before .before .before .before .pre .1,
       ← c .before .before .get322 .ensures,
       ← c .before .age .ensures,
       le-ltb _ _ (c .if4 .taken),
@@ -76,24 +73,24 @@ shared-slice-read-len : tie.Need-shared-slice-read-len
 shared-slice-read-len c = search needs
 
 cast-len : tie.Need-cast-len
-cast-len c = omega (arith, c .shared-slice-known2 .given (c .before .before .before .before .before .before .before .before .before .before .args .a + 39))
+cast-len c = omega (arith, c .shared-slice-known2 .given (c .before .before .before .before .before .before .before .before .before .before .before .args .a + 39))
 
 add-lower-name : tie.Need-add-lower-name
 add-lower-name c = search needs
 
 lower-name-requires : tie.Need-lower-name-requires
-lower-name-requires c κs = omega (arith, c .shared-slice-known2 .given (c .before .before .before .before .before .before .before .before .before .before .args .a + 39))
+lower-name-requires c κs = omega (arith, c .shared-slice-known2 .given (c .before .before .before .before .before .before .before .before .before .before .before .args .a + 39))
 
 returns-5 : tie.Need-returns-5
 unfolding holdingAt readEntry
 returns-5 c =
     rw (
-      ← c .before .before .before .before .before .before .before .before .before .get64 .ensures,
+      ← c .before .before .before .before .before .before .before .before .before .before .number-at .ensures,
       ne-eqb _ _ (c .before .before .before .before .before .before .before .before .if1 .left),
       ← c .before .before .before .before .before .before .before .get32 .ensures,
       le-leb _ _ (c .before .before .before .before .before .before .if2 .left),
       le-leb _ _ (c .before .before .before .before .before .if3 .left),
-      ← c .before .before .before .before .before .before .before .before .before .before .before .pre .1,
+      ← c .before .before .before .before .before .before .before .before .before .before .before .before .pre .1,
       ← c .before .before .before .before .get322 .ensures,
       ← c .before .before .before .age .ensures,
       lt-ltb _ _ (c .before .before .if4 .left),
@@ -103,8 +100,7 @@ pub valid-entry-spec : {M : Type 1} → statement M
 valid-entry-spec =
     tie.close
     (tie.spec
-    add-get64
-    get64-requires
+    number-at-requires
     returns
     add-get32
     get32-requires

@@ -66,6 +66,9 @@ loop-again c =
     let l = c .before .before .before .loop in
     (omega arith, every-next (l .i) _ _ ∙ (rw (l .inv .1, sym (c .before .has-address .ensures) ∙ c .if1 .left)))
 
+cast-result : tie.Need-cast-result Inv-loop μ-loop
+cast-result c = search needs
+
 returns-2 : tie.Need-returns-2 Inv-loop μ-loop
 returns-2 c =
     let e : c .before .loop .i ≡ c .before .before .before .args .m = omega arith in
@@ -89,4 +92,5 @@ limit-of-spec =
     add-i
     loop-less
     loop-again
+    cast-result
     returns-2)

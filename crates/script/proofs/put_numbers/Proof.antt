@@ -34,7 +34,7 @@ returns c =
     let a = c .before .before .before .before .before .before .before .before .before .before .before .before .before .args in
     let e : a .at + 8 ≡ a .at + 4 + 4 = omega arith in
     rw (c .before .before .put323 .ensures, e, c .before .before .before .before .before .before .put322 .ensures, c .before .before .before .before .before .before .before .before .before .before .put32 .ensures)
-    (writes-eq ((4, a .number) ∷ (4, a .gave) ∷ (4, a .sum) ∷ []) (a .at) (a .out .now) (omega (arith, c .before .before .before .before .before .before .before .before .before .before .before .before .before)))
+    (writes-eq ((4, a .number) ∷ (4, a .count) ∷ (4, a .sum) ∷ []) (a .at) (a .out .now) (omega (arith, c .before .before .before .before .before .before .before .before .before .before .before .before .before)))
 
 pub put-numbers-spec : {M : Type 1} → statement M
 put-numbers-spec =

@@ -10,14 +10,14 @@ use Rattle.table.proofs.put_slot.Tie as tie
 use Rattle.table.proofs.put_slot.Reads as reads
 use Rattle.table.proofs.put_slot.Lts as lts
 use Rattle.table.proofs.put_name.Reads as put-name-reads
-use Rattle.table.proofs.put_lease_to_class.Reads as put-lease-to-class-reads
-use Rattle.table.proofs.put_kind_to_number.Reads as put-kind-to-number-reads
+use Rattle.table.proofs.put_lease_fields.Reads as put-lease-fields-reads
+use Rattle.table.proofs.put_holder_fields.Reads as put-holder-fields-reads
 
-put-kind-to-number-requires : tie.Need-put-kind-to-number-requires
-put-kind-to-number-requires c κs = search needs
+put-holder-fields-requires : tie.Need-put-holder-fields-requires
+put-holder-fields-requires c κs = search needs
 
-put-lease-to-class-requires : tie.Need-put-lease-to-class-requires
-put-lease-to-class-requires c κs = search needs
+put-lease-fields-requires : tie.Need-put-lease-fields-requires
+put-lease-fields-requires c κs = search needs
 
 put-name-requires : tie.Need-put-name-requires
 put-name-requires c κs = search needs
@@ -29,9 +29,9 @@ returns : tie.Need-returns
 returns c =
     let z = c .before .before .before .before .before .before .before .before .before .before .before .before .before .before in
     let e = entry.folded-length (z .args .d .now) (z .args .at) (z .args .e .len) (z .pre .1) in
-    rw (c .before .before .put-name .ensures, c .before .before .before .before .before .before .put-lease-to-class .ensures, c .before .before .before .before .before .before .before .before .before .before .put-kind-to-number .ensures)
+    rw (c .before .before .put-name .ensures, c .before .before .before .before .before .before .put-lease-fields .ensures, c .before .before .before .before .before .before .before .before .before .before .put-holder-fields .ensures)
     (entry.entry-bytes (z .args .s .now) (z .args .e) (map fold (part (z .args .at) (z .args .e .len) (z .args .d .now))) (omega (arith, z)) (omega (arith, z, e)))
 
 pub put-slot-spec : {M : Type 1} → statement M
 put-slot-spec =
-    tie.close (tie.spec put-kind-to-number-requires put-lease-to-class-requires put-name-requires same-length returns)
+    tie.close (tie.spec put-holder-fields-requires put-lease-fields-requires put-name-requires same-length returns)

@@ -1,13 +1,13 @@
--- `table::put_kind_to_number` meets its contract. Assumes nothing.
+-- `table::put_holder_fields` meets its contract. Assumes nothing.
 use native.Mathlib.Omega.{arith}
 use borrow.Author.Needs.{needs}
 use Rattle.model.proofs.NumberLaws.{writes-eq}
-use Rattle.table.specs.Stored.{kindToNumberHalves}
+use Rattle.table.specs.Stored.{holderHalves}
 use Rattle.table.proofs.EntryLaws as entry
-use Rattle.table.proofs.put_kind_to_number.Statement.{statement}
-use Rattle.table.proofs.put_kind_to_number.Tie as tie
-use Rattle.table.proofs.put_kind_to_number.Reads as reads
-use Rattle.table.proofs.put_kind_to_number.Lts as lts
+use Rattle.table.proofs.put_holder_fields.Statement.{statement}
+use Rattle.table.proofs.put_holder_fields.Tie as tie
+use Rattle.table.proofs.put_holder_fields.Reads as reads
+use Rattle.table.proofs.put_holder_fields.Lts as lts
 use Rattle.octets.proofs.put16.Reads as put16-reads
 use Rattle.octets.proofs.put64.Reads as put64-reads
 use Rattle.record.proofs.kind_byte.Reads as kind-byte-reads
@@ -38,10 +38,10 @@ returns : tie.Need-returns
 returns c =
     let z = c .before .before .before .before .before .before .before .before .before .before .before .before .before .before .before .before .before .before .before .before .before .before .before in
     rw (← entry.halves-written (z .args .e) (omega (arith, z)), c .before .before .put643 .ensures, c .before .before .before .before .before .before .put16 .ensures, c .before .before .before .before .before .before .before .before .before .before .put642 .ensures, c .before .before .before .before .before .before .before .before .before .before .before .before .before .before .put64 .ensures, c .before .before .before .before .before .before .before .before .before .before .before .before .before .before .before .before .before .before .put8 .ensures, c .before .before .before .before .before .before .before .before .before .before .before .before .before .before .before .before .before .before .before .kind-byte .ensures)
-    (writes-eq (kindToNumberHalves (z .args .e)) 0 (z .args .s .now) (omega (arith, z)))
+    (writes-eq (holderHalves (z .args .e)) 0 (z .args .s .now) (omega (arith, z)))
 
-pub put-kind-to-number-spec : {M : Type 1} → statement M
-put-kind-to-number-spec =
+pub put-holder-fields-spec : {M : Type 1} → statement M
+put-holder-fields-spec =
     tie.close
     (tie.spec
     kind-byte-requires
