@@ -20,7 +20,7 @@ use Rattle.claims.specs.SoundRules.{SoundExactly}
 use Rattle.claims.specs.NumbersInBytes.{NumbersInBytes}
 use Rattle.claims.specs.TableLayout.{TableLayout}
 use Rattle.claims.specs.OneSlot.{OneSlot}
-use Rattle.claims.specs.Contracts.{CallsSettled, ContractsSettled}
+use Rattle.claims.specs.Contracts.{CallsExactly, ContractsExactly}
 use Rattle.claims.specs.Impostors.{Refuted}
 use Rattle.claims.specs.Step.{StepMeaning}
 use Rattle.claims.proofs.Refusals.{refusals}
@@ -41,7 +41,7 @@ use Rattle.claims.proofs.SoundRules.{sound-exactly}
 use Rattle.claims.proofs.NumbersInBytes.{numbers-in-bytes}
 use Rattle.claims.proofs.TableLayout.{table-layout}
 use Rattle.claims.proofs.OneSlot.{one-slot}
-use Rattle.claims.proofs.Contracts.{calls-settled, contracts-settled}
+use Rattle.claims.proofs.Contracts.{calls-exactly, contracts-exactly}
 use Rattle.claims.proofs.Impostors.{refuted}
 use Rattle.claims.proofs.Step.{step-meaning}
 
@@ -87,8 +87,8 @@ pub record Claims (s : Server) : Type 0 where
   -- a slot written, and all else as it was
   pub slot : OneSlot
   -- a call's numbers and bytes are settled, and so are the public contracts
-  pub calls : CallsSettled s
-  pub contracts : ContractsSettled
+  pub calls : CallsExactly s
+  pub contracts : ContractsExactly
   -- twelve wrong servers break a claim each
   pub refuted : Refuted
 
@@ -117,7 +117,7 @@ claims =
       numbersInBytes = numbers-in-bytes;
       layout = table-layout;
       slot = one-slot;
-      calls = calls-settled model;
-      contracts = contracts-settled;
+      calls = calls-exactly model;
+      contracts = contracts-exactly;
       refuted = refuted;
     }

@@ -17,7 +17,7 @@ use Rattle.model.proofs.NumberLaws.{getD-part, length-part}
 use Rattle.model.proofs.NameLaws.{upper-is, fold-same, question-size, question-within}
 use Rattle.model.proofs.QueryLaws.{good-at}
 use Rattle.claims.specs.Refusals.{twoBytes, NameEnds, Starts, QuestionFault, OptFault}
-use Rattle.claims.specs.Demand3.{Exactly}
+use Rattle.claims.specs.Exactly.{Exactly}
 use Rattle.claims.specs.Reading.{Folded, QuestionRead, LlqPlaces, OptionRead, Matching, QueryRead, ReadsQueries}
 use Rattle.claims.proofs.Refusals.NameReading.{end-size}
 use Rattle.claims.proofs.Refusals.OptReading.{end-of}

@@ -21,7 +21,7 @@ use Rattle.model.proofs.TableLaws.{flat-cut, length-front, length-roster, lengt
 use Rattle.model.proofs.RoundTrip.{noLine, table-back}
 use Rattle.claims.specs.NumbersInBytes.{valueAt}
 use Rattle.claims.specs.SoundRules.{lineIn}
-use Rattle.claims.specs.TableLayout.{ClockLaid, LineLaid, ZerosLaid, EntryLaid, SlotLaid, TableLaid, TableLayout}
+use Rattle.claims.specs.TableLayout.{ClockRecord, LineRecord, ZeroRecord, EntryRecord, SlotRecord, TableRecords, TableLayout}
 use Rattle.claims.proofs.NumbersInBytes.{all-bytes, value-is}
 use Rattle.claims.proofs.SoundRules.{sound-exactly}
 
@@ -55,7 +55,7 @@ first-byte : (b xs : List ℕ) (at w : ℕ) → Record b at w xs → 0 < w → g
 unfolding Record
 first-byte b xs at w r h = ap (λ (j : ℕ). getD b j 0) (sym (add-zero at)) ∙ r 0 h
 
-line-laid : (b : List ℕ) (at : ℕ) (l : Line) → FitsLine l → Record b at 19 (lineBytes l) → LineLaid b at l
+line-laid : (b : List ℕ) (at : ℕ) (l : Line) → FitsLine l → Record b at 19 (lineBytes l) → LineRecord b at l
 unfolding Record lineBytes readLine
 line-laid b at l f r =
     let back : readLine (lineBytes l ++ []) 0 ≡ l = line-back [] 0 l [] refl f in
@@ -68,7 +68,7 @@ line-laid b at l f r =
       limit = r 18 (lit< tt) ∙ ap (λ (x : Line). x .limit) read;
     }
 
-zeros-laid : (b : List ℕ) (at first body : ℕ) → Record b at (suc body) (first ∷ replicate body 0) → ZerosLaid b at first body
+zeros-laid : (b : List ℕ) (at first body : ℕ) → Record b at (suc body) (first ∷ replicate body 0) → ZeroRecord b at first body
 unfolding Record
 zeros-laid b at first body r =
     record {
@@ -107,7 +107,7 @@ module _ (b : List ℕ) (at : ℕ) (e : Entry) (f : FitsEntry e) (r : Record b a
       ap (λ (j : ℕ). getD b j 0) j ∙ r (40 + i) (omega arith) ∙ ap (λ (j : ℕ). getD entry j 0) k
       ∙ getD-append-add (encode (entryFields e)) (e .name ++ replicate (280 - length (e .name)) 0) i 0
 
-  entry-laid : EntryLaid b at e
+  entry-laid : EntryRecord b at e
   unfolding Record readEntry
   entry-laid =
       record {
@@ -128,7 +128,7 @@ module _ (b : List ℕ) (at : ℕ) (e : Entry) (f : FitsEntry e) (r : Record b a
             ∙ getD-replicate (280 - length (e .name)) (i - length (e .name)) 0 0 (omega arith);
       }
 
-slot-laid : (b : List ℕ) (at : ℕ) (s : Slot) → FitsSlot s → Record b at 320 (slotBytes s) → SlotLaid b at s
+slot-laid : (b : List ℕ) (at : ℕ) (s : Slot) → FitsSlot s → Record b at 320 (slotBytes s) → SlotRecord b at s
 unfolding slotBytes
 slot-laid b at free f r = zeros-laid b at 4 319 r
 slot-laid b at (held e) f r = entry-laid b at e f r
@@ -174,7 +174,7 @@ module _ (t : Table) (few : length (t .roster) ≤ 16) (f : Fits t) where
       let whole : p ++ (slotRows ++ []) ≡ clockBytes (t .clock) ++ (rosterBytes (t .roster) ++ slotRows) = rw (append-nil slotRows) (simp append-assoc) in
       rw whole at (row slotBytes 320 (t .slots) (fits-rows t few f) p [] 313 j free pk h)
 
-  clock-laid : ClockLaid (tableBytes t) (t .clock)
+  clock-laid : ClockRecord (tableBytes t) (t .clock)
   unfolding tableBytes clockBytes
   clock-laid =
       let b = tableBytes t in
@@ -186,7 +186,7 @@ module _ (t : Table) (few : length (t .roster) ≤ 16) (f : Fits t) where
         running = sym (value-is b 5 4) ∙ field-behind [] 0 fs rest 2 refl (lit< tt) (f .running);
       }
 
-  table-laid : TableLaid (tableBytes t) t
+  table-laid : TableRecords (tableBytes t) t
   unfolding unusedLine
   table-laid =
       record {
@@ -207,7 +207,7 @@ value-lt b at k o e = rw (← e, ← value-is b at k) (big-lt b at k o)
 byte-lt : (b : List ℕ) (at : ℕ) {x : ℕ} → Bytes b → getD b at 0 ≡ x → x < 256
 byte-lt b at o e = rw (← e) (o at)
 
-line-fits : (b : List ℕ) (at : ℕ) (l : Line) → Bytes b → LineLaid b at l → FitsLine l
+line-fits : (b : List ℕ) (at : ℕ) (l : Line) → Bytes b → LineRecord b at l → FitsLine l
 line-fits b at l o r =
     record {
       address = value-lt b (at + 1) 16 o (r .address);
@@ -215,7 +215,7 @@ line-fits b at l o r =
       limit = byte-lt b (at + 18) o (r .limit);
     }
 
-slot-fits : (b : List ℕ) (at : ℕ) (s : Slot) → Bytes b → SlotLaid b at s → FitsSlot s
+slot-fits : (b : List ℕ) (at : ℕ) (s : Slot) → Bytes b → SlotRecord b at s → FitsSlot s
 slot-fits b at free o r = tt
 slot-fits b at (held e) o r =
     record {
@@ -230,7 +230,7 @@ slot-fits b at (held e) o r =
       bytes = all-bytes (e .name) (λ i h. byte-lt b (at + 40 + i) o (r .name i h));
     }
 
-module _ (b : List ℕ) (t : Table) (r : TableLaid b t) where
+module _ (b : List ℕ) (t : Table) (r : TableRecords b t) where
   laid-bytes : Bytes b
   laid-bytes = all-bytes b (r .octets)
 
@@ -277,18 +277,18 @@ module _ (b c : List ℕ) where
         let s : part at k b ≡ part at k c = sym (bytes-big b at k ob h) ∙ ap (bytesOf k) e ∙ bytes-big c at k oc (omega arith) in
         sym (getD-part at k b i l) ∙ ap (λ (z : List ℕ). getD z i 0) s ∙ getD-part at k c i l
 
-    same-zeros : (at first body : ℕ) → ZerosLaid b at first body → ZerosLaid c at first body → Alike at (1 + body)
+    same-zeros : (at first body : ℕ) → ZeroRecord b at first body → ZeroRecord c at first body → Alike at (1 + body)
     unfolding Alike
     same-zeros at first body x y = join at 1 body (one at (x .kind) (y .kind)) (λ i h. x .zeros i h ∙ sym (y .zeros i h))
 
-    same-line : (at : ℕ) (l : Line) → at + 19 ≤ length b → LineLaid b at l → LineLaid c at l → Alike at 19
+    same-line : (at : ℕ) (l : Line) → at + 19 ≤ length b → LineRecord b at l → LineRecord c at l → Alike at 19
     same-line at l h x y =
         join at 18 1
         (join at 17 1 (join at 1 16 (one at (x .kind) (y .kind)) (number (at + 1) 16 (omega arith) (x .address) (y .address)))
         (one (at + 17) (x .share) (y .share)))
         (one (at + 18) (x .limit) (y .limit))
 
-    same-name : (at : ℕ) (e : Entry) → EntryLaid b at e → EntryLaid c at e → Alike (at + 40) 280
+    same-name : (at : ℕ) (e : Entry) → EntryRecord b at e → EntryRecord c at e → Alike (at + 40) 280
     unfolding Alike
     same-name at e x y i h =
         ⊎-elim
@@ -300,7 +300,7 @@ module _ (b c : List ℕ) where
         x .zeros i l h ∙ sym (y .zeros i l h))
         (test (ltb i (length (e .name))))
 
-    same-slot : (at : ℕ) (s : Slot) → at + 320 ≤ length b → SlotLaid b at s → SlotLaid c at s → Alike at 320
+    same-slot : (at : ℕ) (s : Slot) → at + 320 ≤ length b → SlotRecord b at s → SlotRecord c at s → Alike at 320
     same-slot at free h x y = same-zeros at 4 319 x y
     same-slot at (held e) h x y =
         join at 40 280
@@ -321,7 +321,7 @@ module _ (b c : List ℕ) where
         (one (at + 39) (x .size) (y .size)))
         (same-name at e x y)
 
-module _ (b c : List ℕ) (t : Table) (few : length (t .roster) ≤ 16) (x : TableLaid b t) (y : TableLaid c t) where
+module _ (b c : List ℕ) (t : Table) (few : length (t .roster) ≤ 16) (x : TableRecords b t) (y : TableRecords c t) where
   sizes : length b ≡ length c
   sizes = x .size ∙ sym (y .size)
 
@@ -356,10 +356,10 @@ module _ (b c : List ℕ) (t : Table) (few : length (t .roster) ≤ 16) (x : Tab
 
 -- THE CLAIM
 
-written-laid : (b : List ℕ) (t : Table) → length (t .roster) ≤ 16 → Fits t → tableBytes t ≡ b → TableLaid b t
+written-laid : (b : List ℕ) (t : Table) → length (t .roster) ≤ 16 → Fits t → tableBytes t ≡ b → TableRecords b t
 written-laid b t few f e = rw e at (table-laid t few f)
 
-laid-written : (b : List ℕ) (t : Table) → length (t .roster) ≤ 16 → TableLaid b t → tableBytes t ≡ b
+laid-written : (b : List ℕ) (t : Table) → length (t .roster) ≤ 16 → TableRecords b t → tableBytes t ≡ b
 laid-written b t few r = laid-once (tableBytes t) b t few (table-laid t few (laid-fits b t r)) r
 
 pub table-layout : TableLayout

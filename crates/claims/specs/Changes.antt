@@ -9,12 +9,12 @@ use Rattle.model.specs.Clock.{Clock, advance}
 use Rattle.model.specs.Query.{Question, LlqOption, question, llqOption, qdcount, matched}
 use Rattle.model.specs.Table.{Line, Entry, Slot, free, held, Table, readTable, tableBytes}
 use Rattle.model.specs.Sound.{SoundBytes}
-use Rattle.model.specs.Serve.{Sender, withSlot, slotOf, establish}
+use Rattle.model.specs.Serve.{Sender, withSlot, slotOf}
 use Rattle.model.specs.Calls.{ServeCall}
 use Rattle.model.specs.Meets.{Server}
 use Rattle.claims.specs.Tally.{leaseFor}
 use Rattle.claims.specs.Events.{ServeInRange}
-use Rattle.claims.specs.Demand3.{Exactly}
+use Rattle.claims.specs.Exactly.{Exactly}
 
 -- WELL-FORMED OPTIONS
 pub record Setup (o : LlqOption) : Type 0 where
@@ -69,6 +69,21 @@ pub record Granted (s : Sender) (q : Question) (o : LlqOption) (t : Table) (e : 
   -- the question was new
   pub unheld : (j : ℕ) (x : Entry) → slotOf t j ≡ held x → Own s q x → ⊥
 
+-- an entry established, and else as it was
+abbrev pub establishedEntry : Entry → Entry
+establishedEntry e =
+    record {
+      established = true;
+      address = e .address;
+      port = e .port;
+      number = e .number;
+      lease = e .lease;
+      stamp = e .stamp;
+      qtype = e .qtype;
+      qclass = e .qclass;
+      name = e .name;
+    }
+
 -- an entry with a new lease, from now on
 abbrev pub renewedEntry : Table → LlqOption → Entry → Entry
 renewedEntry t o e =
@@ -92,7 +107,7 @@ pub data Change (s : Sender) (q : Question) (o : LlqOption) (t u : Table) : Type
       → Change s q o t u
   -- pending to established, the state alone
   confirm : (j : ℕ) (e : Entry) → j < length (t .slots) → slotOf t j ≡ held e → e .established ≡ false → RightResponse s q o e
-      → u ≡ withSlot t j (held (establish e)) → Change s q o t u
+      → u ≡ withSlot t j (held (establishedEntry e)) → Change s q o t u
   -- established to a new lease and stamp
   renew : (j : ℕ) (e : Entry) → j < length (t .slots) → slotOf t j ≡ held e → RightRefresh s q o e → o .lease ≢ 0 → u ≡ withSlot t j (held (renewedEntry t o e))
       → Change s q o t u
@@ -103,7 +118,7 @@ pub data Change (s : Sender) (q : Question) (o : LlqOption) (t u : Table) : Type
 pub record OptionDone (s : Sender) (q : Question) (o : LlqOption) (t u : Table) : Type 0 where
   pub change : Change s q o t u
   -- an entry pending just before is established just after exactly if the option is a right response to it
-  pub establishes : (j : ℕ) (e : Entry) → slotOf t j ≡ held e → e .established ≡ false → Exactly (slotOf u j ≡ held (establish e)) (RightResponse s q o e)
+  pub establishes : (j : ℕ) (e : Entry) → slotOf t j ≡ held e → e .established ≡ false → Exactly (slotOf u j ≡ held (establishedEntry e)) (RightResponse s q o e)
   -- nothing is established that was not pending or established just before; what is granted is pending
   pub onlyHeld : (j : ℕ) (x : Entry) → slotOf u j ≡ held x → x .established ≡ true → (e : Entry) × ((slotOf t j ≡ held e) × ((e .established ≡ true) ⊎ RightResponse s q o e))
 

@@ -12,14 +12,11 @@ use Rattle.model.specs.Rules.{holdings}
 use Rattle.model.specs.Sound.{SoundBytes}
 use Rattle.model.specs.Calls.{MakeCall, ServeCall}
 use Rattle.model.specs.Meets.{Server}
+use Rattle.claims.specs.Exactly.{Exactly}
 use Rattle.claims.specs.Tally.{Tally, ticking, beginTally, tallyAfter, tallyBefore, tallyOutcome, judged, heldIn, lineOf, isSetup, isOf, Full, AtShare}
 use Rattle.claims.specs.Events.{Event, made, ticked, served, callOf, numberOf, tableOf, Happens, Trace, AllInRange, MakeInRange}
 use Rattle.claims.specs.Refusals.{BehindQuestions, lengthOf}
 use Rattle.claims.specs.Reply.{optionPlace}
-
--- a statement holds exactly if another does
-abbrev pub Exactly : Type 0 → Type 0 → Type 0
-Exactly P Q = (P → Q) × (Q → P)
 
 -- THE TABLE'S CLOCK, n, ROSTER AND ENTRIES ARE THE TALLY'S, slot places aside
 pub record Agrees (b : List ℕ) (y : Tally) : Type 0 where

@@ -9,11 +9,11 @@ use Rattle.model.specs.Clock.{advance}
 use Rattle.model.specs.Query.{question, llqOption}
 use Rattle.model.specs.Table.{Entry, Slot, free, held, Table, readTable}
 use Rattle.model.specs.Sound.{SoundBytes}
-use Rattle.model.specs.Serve.{slotOf, establish}
+use Rattle.model.specs.Serve.{slotOf}
 use Rattle.model.specs.Calls.{ServeCall}
 use Rattle.model.specs.Meets.{Server}
 use Rattle.claims.specs.Events.{ServeInRange}
-use Rattle.claims.specs.Changes.{RunOut, RightResponse, RightRefresh, doneOptions}
+use Rattle.claims.specs.Changes.{RunOut, establishedEntry, RightResponse, RightRefresh, doneOptions}
 
 -- option i of the datagram is a right response to the entry
 abbrev pub ResponseTo : ServeCall → ℕ → Entry → Type 0
@@ -21,7 +21,7 @@ ResponseTo c i e = RightResponse (c .sender) (question (c .datagram) i) (llqOpti
 
 -- option i is a right refresh of the entry, once established
 abbrev pub RefreshOf : ServeCall → ℕ → Entry → Type 0
-RefreshOf c i e = RightRefresh (c .sender) (question (c .datagram) i) (llqOption (c .datagram) i) (establish e)
+RefreshOf c i e = RightRefresh (c .sender) (question (c .datagram) i) (llqOption (c .datagram) i) (establishedEntry e)
 
 -- option i is the first of the datagram that is a right response to the entry
 pub record FirstResponse (c : ServeCall) (i : ℕ) (e : Entry) : Type 0 where
@@ -52,7 +52,7 @@ pub record PendingAfter (c : ServeCall) (u : Table) (j : ℕ) (e : Entry) : Type
   -- where no option is a right response it stays as it was
   pub untouched : ((i : ℕ) → i < doneOptions c → ResponseTo c i e → ⊥) → slotOf u j ≡ held e
   -- where option i is the first that is, and none behind it refreshes the entry, it is established, and else as it was
-  pub established : (i : ℕ) → FirstResponse c i e → ((k : ℕ) → i < k → k < doneOptions c → RefreshOf c k e → ⊥) → slotOf u j ≡ held (establish e)
+  pub established : (i : ℕ) → FirstResponse c i e → ((k : ℕ) → i < k → k < doneOptions c → RefreshOf c k e → ⊥) → slotOf u j ≡ held (establishedEntry e)
   -- it is established still where some behind it refresh the entry, unless one of them ends it
   pub stays : (i : ℕ) → FirstResponse c i e → ((k : ℕ) → i < k → k < doneOptions c → RefreshOf c k e → llqOption (c .datagram) k .lease ≢ 0) → StillHeld u j e
 

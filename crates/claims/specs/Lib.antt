@@ -1,3 +1,4 @@
+pub mod Exactly
 pub mod Roster
 pub mod Tally
 pub mod Events

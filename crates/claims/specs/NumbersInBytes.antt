@@ -4,7 +4,7 @@ use mathlib.Core.Path.{_≡_}
 use mathlib.Core.List.{List, [], _∷_}
 use lib.ListN.{length, getD}
 use Rattle.model.specs.Numbers.{Bytes, bigEndian, bytesOf, part, splice, encode}
-use Rattle.claims.specs.Demand3.{Exactly}
+use Rattle.claims.specs.Exactly.{Exactly}
 
 -- the value of k bytes from a place: the first counts 256 ^ (k − 1) times, the last once
 unfoldable pub valueAt : List ℕ → ℕ → ℕ → ℕ

@@ -142,8 +142,8 @@ listedPin =
     ++ unusedPin ++ unusedPin ++ unusedPin ++ unusedPin ++ freePin
 
 -- A TABLE OF THREE SLOTS, one free, one pending, one established, with two lines: no byte of its numbers is there twice
-abbrev pub apartTable : Table
-apartTable =
+abbrev pub distinctTable : Table
+distinctTable =
     record {
       clock = record { place = 0x01020304; running = 0x05060708 };
       roster =
@@ -176,8 +176,8 @@ apartTable =
           ∷ [];
     }
 
-abbrev pub apartPin : List ℕ
-apartPin =
+abbrev pub distinctPin : List ℕ
+distinctPin =
     (1 ∷ 0x01 ∷ 0x02 ∷ 0x03 ∷ 0x04 ∷ 0x05 ∷ 0x06 ∷ 0x07 ∷ 0x08 ∷ [])
     ++ (3 ∷ 0x21 ∷ 0x22 ∷ 0x23 ∷ 0x24 ∷ 0x25 ∷ 0x26 ∷ 0x27 ∷ 0x28 ∷ 0x29 ∷ 0x2A ∷ 0x2B ∷ 0x2C ∷ 0x2D ∷ 0x2E ∷ 0x2F ∷ 0x30 ∷ 0x09 ∷ 0x0A ∷ [])
     ++ (3 ∷ 0x31 ∷ 0x32 ∷ 0x33 ∷ 0x34 ∷ 0x35 ∷ 0x36 ∷ 0x37 ∷ 0x38 ∷ 0x39 ∷ 0x3A ∷ 0x3B ∷ 0x3C ∷ 0x3D ∷ 0x3E ∷ 0x3F ∷ 0x40 ∷ 0x0B ∷ 0x0C ∷ [])
@@ -215,5 +215,5 @@ pub record Pinned (s : Server) : Type 0 where
   pub renewed : s .serve refreshCall establishedPin (replicate 60 0xAA)
       ≡ record { number = 0; length = 52; table = renewedPin; reply = renewalReply ++ replicate 8 0xAA }
   -- the definitions write and read the three slots so
-  pub written : tableBytes apartTable ≡ apartPin
-  pub readBack : readTable apartPin ≡ apartTable
+  pub written : tableBytes distinctTable ≡ distinctPin
+  pub readBack : readTable distinctPin ≡ distinctTable

@@ -9,7 +9,7 @@ use lib.ListN.{length, getD}
 use Rattle.model.specs.Numbers.{bigEndian}
 use Rattle.model.specs.Query.{Question, LlqOption, qdcount, questionsEnd, question, llqOption, matched}
 use Rattle.claims.specs.Refusals.{twoBytes, NameEnds, Starts, QuestionFault, OptFault}
-use Rattle.claims.specs.Demand3.{Exactly}
+use Rattle.claims.specs.Exactly.{Exactly}
 
 -- y is x with A to Z folded to a to z
 pub data Folded (x y : ℕ) : Type 0 where

@@ -9,7 +9,7 @@ use lib.Dec.{eqb, ltb}
 use Rattle.model.specs.Table.{Line, Entry, Slot, free, held, Table}
 use Rattle.model.specs.Sound.{Sound}
 use Rattle.claims.specs.Tally.{lineOf}
-use Rattle.claims.specs.Demand3.{Exactly}
+use Rattle.claims.specs.Exactly.{Exactly}
 use Rattle.claims.specs.StoredNames.{StoredName}
 
 -- ONE ROSTER LINE: 0 ≤ share ≤ limit, limit is 1 to 64

@@ -6,7 +6,7 @@ use mathlib.Core.List.{List}
 use lib.ListN.{length, getD}
 use Rattle.model.specs.Names.{lowerName}
 use Rattle.claims.specs.Refusals.{Label, NameEnds}
-use Rattle.claims.specs.Demand3.{Exactly}
+use Rattle.claims.specs.Exactly.{Exactly}
 
 -- a valid wire name in lower case of the list's length
 pub record StoredName (s : List ℕ) : Type 0 where

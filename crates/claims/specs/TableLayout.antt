@@ -7,33 +7,33 @@ use lib.ListN.{length, getD}
 use Rattle.model.specs.Clock.{Clock}
 use Rattle.model.specs.Table.{Line, Entry, Slot, free, held, Table, tableBytes, readTable}
 use Rattle.model.specs.Sound.{Fits, SoundBytes}
-use Rattle.claims.specs.Demand3.{Exactly}
+use Rattle.claims.specs.Exactly.{Exactly}
 use Rattle.claims.specs.NumbersInBytes.{valueAt}
 use Rattle.claims.specs.SoundRules.{lineIn, SoundRules}
 
 -- RECORDS in a table's bytes b: a byte of kind at a place, and a body behind it
 
 -- kind 1, body 8: last place 4, running count 4
-pub record ClockLaid (b : List ℕ) (c : Clock) : Type 0 where
+pub record ClockRecord (b : List ℕ) (c : Clock) : Type 0 where
   pub kind : getD b 0 0 ≡ 1
   pub place : valueAt b 1 4 ≡ c .place
   pub running : valueAt b 5 4 ≡ c .running
 
 -- kind 3, body 18: listed address 16, share 1, limit 1
-pub record LineLaid (b : List ℕ) (at : ℕ) (l : Line) : Type 0 where
+pub record LineRecord (b : List ℕ) (at : ℕ) (l : Line) : Type 0 where
   pub kind : getD b at 0 ≡ 3
   pub address : valueAt b (at + 1) 16 ≡ l .address
   pub share : getD b (at + 17) 0 ≡ l .share
   pub limit : getD b (at + 18) 0 ≡ l .limit
 
 -- a body of zeros
-pub record ZerosLaid (b : List ℕ) (at first body : ℕ) : Type 0 where
+pub record ZeroRecord (b : List ℕ) (at first body : ℕ) : Type 0 where
   pub kind : getD b at 0 ≡ first
   pub zeros : (i : ℕ) → i < body → getD b (at + 1 + i) 0 ≡ 0
 
 -- kind 5 pending, 6 established, body 319: address 16, port 2, LLQ number 8, granted lease 4, stamp 4, type 2, class 2, name length 1, name 255
 -- padded with zeros, 25 zeros
-pub record EntryLaid (b : List ℕ) (at : ℕ) (e : Entry) : Type 0 where
+pub record EntryRecord (b : List ℕ) (at : ℕ) (e : Entry) : Type 0 where
   pub kind : getD b at 0 ≡ cond (e .established) 6 5
   pub address : valueAt b (at + 1) 16 ≡ e .address
   pub port : valueAt b (at + 17) 2 ≡ e .port
@@ -47,30 +47,30 @@ pub record EntryLaid (b : List ℕ) (at : ℕ) (e : Entry) : Type 0 where
   pub zeros : (i : ℕ) → length (e .name) ≤ i → i < 280 → getD b (at + 40 + i) 0 ≡ 0
 
 -- kind 4, body 319: a free slot, all zero
-abbrev pub SlotLaid : List ℕ → ℕ → Slot → Type 0
-SlotLaid b at free = ZerosLaid b at 4 319
-SlotLaid b at (held e) = EntryLaid b at e
+abbrev pub SlotRecord : List ℕ → ℕ → Slot → Type 0
+SlotRecord b at free = ZeroRecord b at 4 319
+SlotRecord b at (held e) = EntryRecord b at e
 
 -- A TABLE of n slots: one clock record, 16 roster lines, the listed ones first and then unused ones (kind 2, body 18, all zero), the slots
-pub record TableLaid (b : List ℕ) (t : Table) : Type 0 where
+pub record TableRecords (b : List ℕ) (t : Table) : Type 0 where
   pub size : length b ≡ 313 + 320 * length (t .slots)
   pub octets : (i : ℕ) → i < length b → getD b i 0 < 256
-  pub clock : ClockLaid b (t .clock)
-  pub listed : (i : ℕ) → i < length (t .roster) → LineLaid b (9 + 19 * i) (lineIn (t .roster) i)
-  pub unused : (i : ℕ) → length (t .roster) ≤ i → i < 16 → ZerosLaid b (9 + 19 * i) 2 18
-  pub slots : (j : ℕ) → j < length (t .slots) → SlotLaid b (313 + 320 * j) (getD (t .slots) j free)
+  pub clock : ClockRecord b (t .clock)
+  pub listed : (i : ℕ) → i < length (t .roster) → LineRecord b (9 + 19 * i) (lineIn (t .roster) i)
+  pub unused : (i : ℕ) → length (t .roster) ≤ i → i < 16 → ZeroRecord b (9 + 19 * i) 2 18
+  pub slots : (j : ℕ) → j < length (t .slots) → SlotRecord b (313 + 320 * j) (getD (t .slots) j free)
 
 -- THE BYTES OF A SOUND TABLE, told by their places
-pub record SoundlyLaid (b : List ℕ) : Type 0 where
+pub record SoundRecords (b : List ℕ) : Type 0 where
   pub table : Table
   pub rules : SoundRules table
-  pub laid : TableLaid b table
+  pub laid : TableRecords b table
 
 -- THE CLAIM, of every table of at most 16 lines
 pub record TableLayout : Type 0 where
   -- bytes are laid out so exactly if they are the table's and its values fit their fields
-  pub written : (b : List ℕ) (t : Table) → length (t .roster) ≤ 16 → Exactly (TableLaid b t) (Fits t × (tableBytes t ≡ b))
+  pub written : (b : List ℕ) (t : Table) → length (t .roster) ≤ 16 → Exactly (TableRecords b t) (Fits t × (tableBytes t ≡ b))
   -- and they are read as that table
-  pub read : (b : List ℕ) (t : Table) → length (t .roster) ≤ 16 → TableLaid b t → readTable b ≡ t
+  pub read : (b : List ℕ) (t : Table) → length (t .roster) ≤ 16 → TableRecords b t → readTable b ≡ t
   -- so soundness of bytes is what their places say and document 01's rules
-  pub sound : (b : List ℕ) → Exactly (SoundBytes b) (SoundlyLaid b)
+  pub sound : (b : List ℕ) → Exactly (SoundBytes b) (SoundRecords b)
