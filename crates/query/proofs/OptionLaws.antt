@@ -26,7 +26,7 @@ pub record Passed (d : List ℕ) (first at count : ℕ) (sized : Bool) (all : Li
   pub fill : optionsFill (suc (length d)) d first ≡ optionsFill turns d at
   pub list : llqFrom d first ≡ passed ++ keep isLlq (optionsFrom turns d at)
   pub counted : count ≡ length passed
-  pub fitted : sized ≡ every isSized passed
+  pub allSized : sized ≡ every isSized passed
   pub stored : sized ≡ true → all ≡ firstEight d passed
 
 pub passed-none : (d : List ℕ) (first : ℕ) (all : List LlqOption) → first ≤ length d → all ≡ firstEight d [] → Passed d first first 0 true all
@@ -40,7 +40,7 @@ passed-none d first all h e =
       fill = refl;
       list = refl;
       counted = refl;
-      fitted = sym (every-nil isSized);
+      allSized = sym (every-nil isSized);
       stored = λ z. e;
     }
 
@@ -83,7 +83,7 @@ module _ (d : List ℕ) (first at count : ℕ) (sized : Bool) (all : List LlqOpt
             fill = fill-next;
             list = list-other (ne-eqb (bigEndian d at 2) 1 n);
             counted = p .counted;
-            fitted = p .fitted;
+            allSized = p .allSized;
             stored = p .stored;
           }
 
@@ -103,13 +103,13 @@ module _ (d : List ℕ) (first at count : ℕ) (sized : Bool) (all : List LlqOpt
             fill = fill-next;
             list = list-llq (eq-eqb (bigEndian d at 2) 1 e);
             counted = one-more;
-            fitted = f;
+            allSized = f;
             stored = s;
           }
 
       same-sized : bigEndian d (at + 2) 2 ≡ 18 → sized ≡ every isSized (p .passed ++ (optionAt d at ∷ []))
       unfolding optionAt
-      same-sized e = p .fitted ∙ sym (every-snoc isSized (p .passed) (optionAt d at) ∙ rw (eq-eqb (bigEndian d (at + 2) 2) 18 e, and-true))
+      same-sized e = p .allSized ∙ sym (every-snoc isSized (p .passed) (optionAt d at) ∙ rw (eq-eqb (bigEndian d (at + 2) 2) 18 e, and-true))
 
       abbrev value : EdnsOption → LlqOption
       value o = optionRecord d (o .start)
@@ -173,6 +173,6 @@ module _ (d : List ℕ) (first at count : ℕ) (sized : Bool) (all : List LlqOpt
       record {
         fill = sym f;
         count = λ z. rw n (p .counted);
-        sized = λ z. rw n (p .fitted);
+        sized = λ z. rw n (p .allSized);
         all = λ z y. rw n (p .stored y);
       }

@@ -100,12 +100,12 @@ module _ (d : List ℕ) (h : QueryHeader) (he : QueryHeaderOf d h) (q : Question
             counted : o .count ≡ length (llqOptions d)
             counted = rw options (oe .count fg)
 
-            fitted : o .sized ≡ every isSized (llqOptions d)
-            fitted = rw options (oe .sized fg)
+            allSized : o .sized ≡ every isSized (llqOptions d)
+            allSized = rw options (oe .sized fg)
 
             match-is : matchOf (o .count) (h .count) (o .sized) ≡ matched d
             unfolding matched
-            match-is = rw (counted, fitted, asked)
+            match-is = rw (counted, allSized, asked)
 
             -- option i, where the options matched
             option-at : o .count ≡ h .count → o .sized ≡ true → (i : ℕ) (e : LlqOption) → i < h .count → optionOf (getD (o .all) i e) ≡ llqOption d i

@@ -246,7 +246,7 @@ pub fn read_options(s: &[u8], first: Cursor) -> Options
                             let option = r.option;
                             all[count] = option;
                             count = count + 1;
-                            c = next;
+                            c = r.next;
                         } else {
                             count = count + 1;
                             c = next;

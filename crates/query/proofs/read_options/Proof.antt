@@ -2,12 +2,14 @@
 use Rattle.query.proofs.read_options.Statement.{statement}
 use Rattle.query.proofs.read_options.Tie as tie
 use borrow.Author.Needs.{needs}
-use Prim.Native.Nat.{_-_}
+use Prim.Native.Nat.{_+_, _-_}
 use native.Mathlib.Omega.{arith}
-use mathlib.Core.Path.{sym, ap, _∙_}
+use mathlib.Core.Path.{_≡_, sym, ap, _∙_}
+use Rattle.model.specs.Query.{optionEnd}
 use lib.ListN.{length, replicate}
 use denote.Ref.{now}
 use Rattle.wire.specs.declared.LlqOption.{LlqOption}
+use Rattle.wire.specs.declared.LlqRead.{LlqRead}
 use Rattle.wire.proofs.Reading.{option-is}
 use Rattle.query.proofs.OptionLaws as law
 
@@ -50,20 +52,22 @@ add-count c = search needs
 
 loop-less : tie.Need-loop-less Inv-loop μ-loop
 loop-less c =
-    let o = c .before .before .before .before .before .before .before .before in
+    let o = c .before .before .before .before .before .before .before .before .before in
     let l = o .before .before .before .loop in
     let a = o .before .before .before .before .before .before .args in
-    let q = option-is (now (a .s)) (l .c .at) (sym (o .option .ensures) ∙ c .before .before .before .before .before .before .code .given .1) in
-    omega (arith, q)
+    let q = option-is (now (a .s)) (l .c .at) (sym (o .option .ensures) ∙ c .before .before .before .before .before .before .before .code .given .1) in
+    omega (arith, q, ap (λ (r : LlqRead). r .next .at) (c .before .before .llq-option .ensures))
 
 loop-again : tie.Need-loop-again Inv-loop μ-loop
 loop-again c =
-    let o = c .before .before .before .before .before .before .before .before in
+    let o = c .before .before .before .before .before .before .before .before .before in
     let l = o .before .before .before .loop in
     let a = o .before .before .before .before .before .before .args in
-    let q = option-is (now (a .s)) (l .c .at) (sym (o .option .ensures) ∙ c .before .before .before .before .before .before .code .given .1) in
-    rw (q .4, c .before .llq-option .ensures, q .2)
-    (law.pass-stored (now (a .s)) (a .first .at) (l .c .at) (l .count) (l .sized) (l .all) (l .inv) (omega arith) (q .0) (omega arith) (sym (q .1) ∙ c .before .before .before .before .if2 .taken) (sym (q .3) ∙ c .before .before .before .if3 .taken) (omega arith))
+    let q = option-is (now (a .s)) (l .c .at) (sym (o .option .ensures) ∙ c .before .before .before .before .before .before .before .code .given .1) in
+    let size = sym (q .3) ∙ c .before .before .before .before .if3 .taken in
+    let end : l .c .at + 4 + 18 ≡ optionEnd (now (a .s)) (l .c .at) = omega (arith, size) in
+    rw (c .before .before .llq-option .ensures, q .2, end)
+    (law.pass-stored (now (a .s)) (a .first .at) (l .c .at) (l .count) (l .sized) (l .all) (l .inv) (omega arith) (q .0) (omega arith) (sym (q .1) ∙ c .before .before .before .before .before .if2 .taken) size (omega arith))
 
 add-count-2 : tie.Need-add-count-2 Inv-loop μ-loop
 add-count-2 c = search needs
