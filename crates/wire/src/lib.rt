@@ -60,6 +60,7 @@ pub enum NumberRead {
     Short,
 }
 
+// A header, and the place behind it.
 pub struct HeaderRead {
     pub header: Header,
     pub next: Cursor,
@@ -107,6 +108,7 @@ pub enum OptionRead {
     Bad,
 }
 
+// An LLQ option, and the place behind it.
 pub struct LlqRead {
     pub option: LlqOption,
     pub next: Cursor,
