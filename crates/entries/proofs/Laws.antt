@@ -44,15 +44,6 @@ module _ (r : ℕ) (p : Holding → Bool) (b : List ℕ) (at : ℕ) where
   pub has-out : inUse (getD b at 0) ≡ false → has r p (readSlot b at) ≡ false
   has-out h = has-is ∙ rw h
 
--- a slot that fails a part of the test fails the test
-pub fails-part : (r : ℕ) (p q : Holding → Bool) (b : List ℕ) (at : ℕ) → ((h : Holding) → q h ≡ false → p h ≡ false) → inUse (getD b at 0) && q (holding r (readEntry b at)) ≡ false
-    → has r p (readSlot b at) ≡ false
-fails-part r p q b at f e = has-is r p b at ∙ go (inUse (getD b at 0)) (q (holding r (readEntry b at))) (p (holding r (readEntry b at))) (f (holding r (readEntry b at))) e
-  where
-    go : (u v w : Bool) → (v ≡ false → w ≡ false) → u && v ≡ false → u && w ≡ false
-    go true v w f e = f e
-    go false v w f e = refl
-
 -- a slot whose entry fails the test has none that passes
 pub has-never : (r : ℕ) (p : Holding → Bool) (b : List ℕ) (at : ℕ) → p (holding r (readEntry b at)) ≡ false → has r p (readSlot b at) ≡ false
 has-never r p b at e = has-is r p b at ∙ rw e (and-false (inUse (getD b at 0)))

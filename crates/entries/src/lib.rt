@@ -159,14 +159,15 @@ fn slot_refreshes(
     }
 }
 
-// The first slot that a setup finds, and its entry. So for the two below. The address, or the number, is looked at first: the entry is read, and sender and question are handed on, only where it agrees.
+// The first slot that a setup finds, and its entry. So for the two below. The address, or the number, is looked at first, in any slot: the entry is read, and its state asked for, only where it agrees.
 pub fn find_asked(t: &[u8], n: usize, s: Sender, d: &[u8], q: Question) -> Found
     requires { ⌜ (length (now t) ≡ sizeOf n) × (q .start + q .len ≤ length (now d)) ⌝ }
     ensures { λ r. ⌜ r ≡ foundAt (now (t .entry)) n (findEntry (asks (senderOf s .address) (s .port) (questionOf (now (d .entry)) q)) (readTable (now (t .entry)))) ⌝ }
 {
     let mut i = 0;
     while i < n {
-        if record::has_holder(t, layout::SLOTS_AT + layout::SLOT * i, s.high, s.low) {
+        let a = layout::SLOTS_AT + layout::SLOT * i;
+        if record::has_address(t, a + layout::ADDRESS_AT, s.high, s.low) {
             let e = entry_at(t, i);
             if slot_asks(t, i, e, s, d, q) {
                 return Found::Slot(i, e);
@@ -191,7 +192,8 @@ pub fn find_answered(
 {
     let mut i = 0;
     while i < n {
-        if record::has_number(t, layout::SLOTS_AT + layout::SLOT * i, number) {
+        let own = record::number_at(t, layout::SLOTS_AT + layout::SLOT * i);
+        if own.0 == number.0 {
             let e = entry_at(t, i);
             if slot_answers(t, i, e, s, d, q, number, lease) {
                 return Found::Slot(i, e);
@@ -215,7 +217,8 @@ pub fn find_refreshed(
 {
     let mut i = 0;
     while i < n {
-        if record::has_number(t, layout::SLOTS_AT + layout::SLOT * i, number) {
+        let own = record::number_at(t, layout::SLOTS_AT + layout::SLOT * i);
+        if own.0 == number.0 {
             let e = entry_at(t, i);
             if slot_refreshes(t, i, e, s, d, q, number) {
                 return Found::Slot(i, e);

@@ -4,10 +4,10 @@ use native.Mathlib.Omega.{arith}
 use mathlib.Core.Path.{_≡_, sym, _∙_}
 use mathlib.Core.Logic.{⊎-elim}
 use borrow.Author.Needs.{needs}
+use borrow.Author.Tests.{ne-eqb}
 use Rattle.model.specs.Numbers.{bigEndian}
-use Rattle.model.specs.Rules.{numbered}
 use Rattle.model.specs.Serve.{has, answers}
-use Rattle.layout.specs.Held.{holdingAt}
+use Rattle.model.specs.Table.{slotAt, readEntry}
 use Rattle.wire.specs.Records.{questionOf}
 use Rattle.entries.specs.Reads.{senderOf, sent, noneTo}
 use Rattle.entries.proofs.Laws as law
@@ -16,7 +16,7 @@ use Rattle.entries.proofs.find_answered.Tie as tie
 use Rattle.entries.proofs.find_answered.Reads as reads
 use Rattle.entries.proofs.find_answered.Lts as lts
 use Rattle.entries.proofs.entry_at.Reads as entry-at-reads
-use Rattle.record.proofs.has_number.Reads as has-number-reads
+use Rattle.record.proofs.number_at.Reads as number-at-reads
 use Rattle.entries.proofs.slot_answers.Reads as slot-answers-reads
 
 abbrev Inv-loop : tie.InvT-loop
@@ -28,14 +28,14 @@ abbrev μ-loop : tie.MeasureT-loop
 loop-holds : tie.Need-loop-holds Inv-loop μ-loop
 loop-holds c = (search needs, law.none-yet _ _)
 
-mul-has-number : tie.Need-mul-has-number Inv-loop μ-loop
-mul-has-number c = search needs
+mul-number-at : tie.Need-mul-number-at Inv-loop μ-loop
+mul-number-at c = search needs
 
-add-has-number : tie.Need-add-has-number Inv-loop μ-loop
-add-has-number c = search needs
+add-number-at : tie.Need-add-number-at Inv-loop μ-loop
+add-number-at c = search needs
 
-has-number-requires : tie.Need-has-number-requires Inv-loop μ-loop
-has-number-requires c κs = search needs
+number-at-requires : tie.Need-number-at-requires Inv-loop μ-loop
+number-at-requires c κs = search needs
 
 entry-at-requires : tie.Need-entry-at-requires Inv-loop μ-loop
 entry-at-requires c κs = search needs
@@ -45,8 +45,8 @@ slot-answers-requires c κs = search needs
 
 returns : tie.Need-returns Inv-loop μ-loop
 returns c =
-    let l = c .before .before .before .before .before .before .loop in
-    law.slot-found _ _ (c .before .before .before .before .before .before .before .before .before .pre .0) _ (l .i) (omega arith) (l .inv .1) (sym (c .before .slot-answers .ensures) ∙ c .if2 .taken) _ (c .before .before .entry-at .ensures)
+    let l = c .before .before .before .before .before .before .before .before .loop in
+    law.slot-found _ _ (c .before .before .before .before .before .before .before .before .before .before .before .pre .0) _ (l .i) (omega arith) (l .inv .1) (sym (c .before .slot-answers .ensures) ∙ c .if2 .taken) _ (c .before .before .entry-at .ensures)
 
 add-i : tie.Need-add-i Inv-loop μ-loop
 add-i c = search needs
@@ -55,15 +55,15 @@ loop-less : tie.Need-loop-less Inv-loop μ-loop
 loop-less c = search needs
 
 loop-again : tie.Need-loop-again Inv-loop μ-loop
-unfolding holdingAt
+unfolding readEntry
 loop-again c =
-    let l = c .before .before .before .loop in
-    let a = c .before .before .before .before .before .before .args in (
+    let l = c .before .before .before .before .before .loop in
+    let a = c .before .before .before .before .before .before .before .before .args in (
       omega arith,
       law.none-still _ _ (l .i)
           (⊎-elim
           (λ w. sym (w .2 .ensures) ∙ w .3 .left)
-          (λ w. law.fails-part _ _ (numbered (a .number .0)) _ _ (λ h e. rw e) (sym (c .before .has-number .ensures) ∙ w .left))
+          (λ w. law.has-never _ _ (a .t .now) (slotAt (l .i)) (rw (← c .before .before .before .number-at .ensures, ne-eqb _ _ (w .left))))
           (c .if1 .came))
           (l .inv .1),
     )
@@ -81,9 +81,9 @@ find-answered-spec =
     Inv-loop
     μ-loop
     loop-holds
-    mul-has-number
-    add-has-number
-    has-number-requires
+    mul-number-at
+    add-number-at
+    number-at-requires
     entry-at-requires
     slot-answers-requires
     returns

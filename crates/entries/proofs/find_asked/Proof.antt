@@ -5,9 +5,9 @@ use mathlib.Core.Path.{_≡_, sym, _∙_}
 use mathlib.Core.Logic.{⊎-elim}
 use borrow.Author.Needs.{needs}
 use Rattle.model.specs.Numbers.{bigEndian}
-use Rattle.model.specs.Rules.{asks, heldBy}
+use Rattle.model.specs.Rules.{asks}
 use Rattle.model.specs.Serve.{has}
-use Rattle.layout.specs.Held.{holdingAt}
+use Rattle.model.specs.Table.{slotAt, readEntry}
 use Rattle.wire.specs.Records.{questionOf}
 use Rattle.entries.specs.Reads.{senderOf, noneTo}
 use Rattle.entries.proofs.Laws as law
@@ -16,7 +16,7 @@ use Rattle.entries.proofs.find_asked.Tie as tie
 use Rattle.entries.proofs.find_asked.Reads as reads
 use Rattle.entries.proofs.find_asked.Lts as lts
 use Rattle.entries.proofs.entry_at.Reads as entry-at-reads
-use Rattle.record.proofs.has_holder.Reads as has-holder-reads
+use Rattle.record.proofs.has_address.Reads as has-address-reads
 use Rattle.entries.proofs.slot_asks.Reads as slot-asks-reads
 
 abbrev Inv-loop : tie.InvT-loop
@@ -28,14 +28,17 @@ abbrev μ-loop : tie.MeasureT-loop
 loop-holds : tie.Need-loop-holds Inv-loop μ-loop
 loop-holds c = (search needs, law.none-yet _ _)
 
-mul-has-holder : tie.Need-mul-has-holder Inv-loop μ-loop
-mul-has-holder c = search needs
+mul-a : tie.Need-mul-a Inv-loop μ-loop
+mul-a c = search needs
 
-add-has-holder : tie.Need-add-has-holder Inv-loop μ-loop
-add-has-holder c = search needs
+add-a : tie.Need-add-a Inv-loop μ-loop
+add-a c = search needs
 
-has-holder-requires : tie.Need-has-holder-requires Inv-loop μ-loop
-has-holder-requires c κs = search needs
+add-has-address : tie.Need-add-has-address Inv-loop μ-loop
+add-has-address c = search needs
+
+has-address-requires : tie.Need-has-address-requires Inv-loop μ-loop
+has-address-requires c κs = search needs
 
 entry-at-requires : tie.Need-entry-at-requires Inv-loop μ-loop
 entry-at-requires c κs = search needs
@@ -55,7 +58,7 @@ loop-less : tie.Need-loop-less Inv-loop μ-loop
 loop-less c = search needs
 
 loop-again : tie.Need-loop-again Inv-loop μ-loop
-unfolding holdingAt
+unfolding readEntry
 loop-again c =
     let l = c .before .before .before .loop in
     let a = c .before .before .before .before .before .before .args in (
@@ -63,7 +66,7 @@ loop-again c =
       law.none-still _ _ (l .i)
           (⊎-elim
           (λ w. sym (w .2 .ensures) ∙ w .3 .left)
-          (λ w. law.fails-part _ _ (heldBy (senderOf (a .s) .address)) _ _ (λ h e. rw e) (sym (c .before .has-holder .ensures) ∙ w .left))
+          (λ w. law.has-never _ _ (a .t .now) (slotAt (l .i)) (rw (sym (c .before .has-address .ensures) ∙ w .left)))
           (c .if1 .came))
           (l .inv .1),
     )
@@ -81,9 +84,10 @@ find-asked-spec =
     Inv-loop
     μ-loop
     loop-holds
-    mul-has-holder
-    add-has-holder
-    has-holder-requires
+    mul-a
+    add-a
+    add-has-address
+    has-address-requires
     entry-at-requires
     slot-asks-requires
     returns

@@ -5,10 +5,13 @@ use mathlib.Core.Path.{_≡_, sym, _∙_}
 use mathlib.Core.Logic.{⊎-elim}
 use mathlib.Core.Bool.{and-false}
 use borrow.Author.Needs.{needs}
+use borrow.Author.Tests.{ne-eqb}
+use mathlib.Core.Bool.{and-false}
+use lib.ListN.{getD}
+use lib.Dec.{eqb}
 use Rattle.model.specs.Numbers.{bigEndian}
-use Rattle.model.specs.Rules.{numbered}
 use Rattle.model.specs.Serve.{has, refreshes}
-use Rattle.layout.specs.Held.{holdingAt}
+use Rattle.model.specs.Table.{slotAt, readEntry}
 use Rattle.wire.specs.Records.{questionOf}
 use Rattle.entries.specs.Reads.{senderOf, sent, noneTo}
 use Rattle.entries.proofs.Laws as law
@@ -17,7 +20,7 @@ use Rattle.entries.proofs.find_refreshed.Tie as tie
 use Rattle.entries.proofs.find_refreshed.Reads as reads
 use Rattle.entries.proofs.find_refreshed.Lts as lts
 use Rattle.entries.proofs.entry_at.Reads as entry-at-reads
-use Rattle.record.proofs.has_number.Reads as has-number-reads
+use Rattle.record.proofs.number_at.Reads as number-at-reads
 use Rattle.entries.proofs.slot_refreshes.Reads as slot-refreshes-reads
 
 abbrev Inv-loop : tie.InvT-loop
@@ -29,14 +32,14 @@ abbrev μ-loop : tie.MeasureT-loop
 loop-holds : tie.Need-loop-holds Inv-loop μ-loop
 loop-holds c = (search needs, law.none-yet _ _)
 
-mul-has-number : tie.Need-mul-has-number Inv-loop μ-loop
-mul-has-number c = search needs
+mul-number-at : tie.Need-mul-number-at Inv-loop μ-loop
+mul-number-at c = search needs
 
-add-has-number : tie.Need-add-has-number Inv-loop μ-loop
-add-has-number c = search needs
+add-number-at : tie.Need-add-number-at Inv-loop μ-loop
+add-number-at c = search needs
 
-has-number-requires : tie.Need-has-number-requires Inv-loop μ-loop
-has-number-requires c κs = search needs
+number-at-requires : tie.Need-number-at-requires Inv-loop μ-loop
+number-at-requires c κs = search needs
 
 entry-at-requires : tie.Need-entry-at-requires Inv-loop μ-loop
 entry-at-requires c κs = search needs
@@ -46,8 +49,8 @@ slot-refreshes-requires c κs = search needs
 
 returns : tie.Need-returns Inv-loop μ-loop
 returns c =
-    let l = c .before .before .before .before .before .before .loop in
-    law.slot-found _ _ (c .before .before .before .before .before .before .before .before .before .pre .0) _ (l .i) (omega arith) (l .inv .1) (sym (c .before .slot-refreshes .ensures) ∙ c .if2 .taken) _ (c .before .before .entry-at .ensures)
+    let l = c .before .before .before .before .before .before .before .before .loop in
+    law.slot-found _ _ (c .before .before .before .before .before .before .before .before .before .before .before .pre .0) _ (l .i) (omega arith) (l .inv .1) (sym (c .before .slot-refreshes .ensures) ∙ c .if2 .taken) _ (c .before .before .entry-at .ensures)
 
 add-i : tie.Need-add-i Inv-loop μ-loop
 add-i c = search needs
@@ -56,15 +59,15 @@ loop-less : tie.Need-loop-less Inv-loop μ-loop
 loop-less c = search needs
 
 loop-again : tie.Need-loop-again Inv-loop μ-loop
-unfolding holdingAt
+unfolding readEntry
 loop-again c =
-    let l = c .before .before .before .loop in
-    let a = c .before .before .before .before .before .before .args in (
+    let l = c .before .before .before .before .before .loop in
+    let a = c .before .before .before .before .before .before .before .before .args in (
       omega arith,
       law.none-still _ _ (l .i)
           (⊎-elim
           (λ w. sym (w .2 .ensures) ∙ w .3 .left)
-          (λ w. law.fails-part _ _ (numbered (a .number .0)) _ _ (λ h e. rw e (and-false (h .established))) (sym (c .before .has-number .ensures) ∙ w .left))
+          (λ w. law.has-never _ _ (a .t .now) (slotAt (l .i)) (rw (← c .before .before .before .number-at .ensures, ne-eqb _ _ (w .left)) (and-false (eqb (getD (a .t .now) (slotAt (l .i)) 0) 6))))
           (c .if1 .came))
           (l .inv .1),
     )
@@ -82,9 +85,9 @@ find-refreshed-spec =
     Inv-loop
     μ-loop
     loop-holds
-    mul-has-number
-    add-has-number
-    has-number-requires
+    mul-number-at
+    add-number-at
+    number-at-requires
     entry-at-requires
     slot-refreshes-requires
     returns
