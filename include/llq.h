@@ -13,12 +13,21 @@
  *  - IPv4 senders come as IPv4-mapped IPv6 addresses (::ffff:a.b.c.d);
  *  - no two calls run at once on one table, and nobody else writes the table between calls.
  * Tested, not proved: a NULL pointer with length 0 is taken as an empty buffer.
+ *
+ * Promised and not promised: a sender is known by the address and port that the host passes, and by nothing else. An address
+ * below its share is never refused as full, whatever other addresses do. But whoever forges source addresses can fill every
+ * slot that is not reserved with pending entries, which wait out their lease (up to 7,200 s; four forged datagrams of four
+ * questions fill 16 slots), and whoever forges a listed address takes that address's own share. Visitors behind one address
+ * share its limit of 4. So: filter source addresses at the switch, give what must be served a share in the roster, and let
+ * each panel send from a fixed port, since an entry belongs to address, port and question.
  */
 #ifndef LLQ_H
 #define LLQ_H
 
 #include <stddef.h>
 #include <stdint.h>
+
+#define LLQ_VERSION "0.2.0"
 
 #ifdef __cplusplus
 extern "C" {

@@ -1,0 +1,129 @@
+/*
+ * Readings for the library. The system's clock counts once, at start: from there on readings go by the time since boot, so
+ * that no change of the system's clock moves a lease.
+ */
+#include <stdlib.h>
+#include <string.h>
+
+#include "llqd.h"
+
+#define SECOND INT64_C(1000000000)
+#define EARLY_MOST 600  /* seconds that the clock may be before the state file's time */
+#define STEP_MOST 60    /* seconds; a longer step ahead is logged */
+#define GPS_EPOCH 315964800 /* 6 January 1980 */
+#define LEAP_SECONDS 18     /* GPS time has none; since 2017 it is so many ahead */
+
+static int64_t start;  /* what the time since boot is added to, ns */
+static int64_t offset; /* the system's clock less the time since boot, when last looked at, ns */
+
+static int64_t now_of(clockid_t clock)
+{
+    struct timespec now;
+    clock_gettime(clock, &now);
+    return now.tv_sec * SECOND + now.tv_nsec;
+}
+
+/* The system's clock less the time since boot; read again if the process was stopped in between. */
+static int64_t offset_now(void)
+{
+    for (;;) {
+        int64_t before = now_of(CLOCK_BOOTTIME), system = now_of(CLOCK_REALTIME), after = now_of(CLOCK_BOOTTIME);
+        if (after - before < SECOND / 10)
+            return system - before;
+    }
+}
+
+static struct reading reading_of(int64_t seconds)
+{
+    struct reading reading = {(uint32_t)(seconds / WEEK % (CYCLE / WEEK)), (uint32_t)(seconds % WEEK)};
+    return reading;
+}
+
+/* GPS seconds of a time of the system's clock. */
+static int64_t gps(int64_t system)
+{
+    return system / SECOND - GPS_EPOCH + LEAP_SECONDS;
+}
+
+int64_t milliseconds(void)
+{
+    return now_of(CLOCK_BOOTTIME) / (SECOND / 1000);
+}
+
+bool clock_set(time_t saved, const char *path, char *reason)
+{
+    char reads[TIME_SIZE], since[TIME_SIZE];
+    time_t now = (time_t)(now_of(CLOCK_REALTIME) / SECOND);
+    time_text(now, reads);
+    if (now < BUILD_TIME)
+        return refuse(reason, "the clock reads %s, before this program was built (%s)", reads, time_text(BUILD_TIME, since));
+    if (now < saved - EARLY_MOST)
+        return refuse(reason, "the clock reads %s, more than %d minutes before %.300s was saved (%s)", reads, EARLY_MOST / 60, path,
+                      time_text(saved, since));
+    return true;
+}
+
+/* The step from the table's place to a reading's, by document 01's rule. */
+static int64_t step_to(const struct table *table, int64_t seconds)
+{
+    int64_t step = (seconds - (int64_t)number_at(table->bytes + PLACE_AT, 4)) % CYCLE;
+    step += step < -CYCLE / 2 ? CYCLE : 0;
+    return step - (step >= CYCLE / 2 ? CYCLE : 0);
+}
+
+/*
+ * How long ago a table was saved: by its own clock, or by its file's time, whichever is less. A table may have been saved
+ * under a clock that was set wrong when the host started, and then its own clock is wrong too; its file's time is not, once
+ * the system's clock was set right. A table that is ahead of the clock by more than a minute does not count; one that is
+ * less ahead, or a file that is ahead, was saved just now. Half a cycle or more would be a step back to the library.
+ */
+static int64_t passed_since(int64_t by_table, int64_t by_file)
+{
+    int64_t passed = by_table >= -STEP_MOST && by_table < by_file ? by_table : by_file;
+    if (passed < 0)
+        return 0;
+    return passed < CYCLE / 2 ? passed : CYCLE / 2 - 1;
+}
+
+void clock_start(const struct table *table, time_t saved)
+{
+    offset = offset_now();
+    int64_t system = offset + now_of(CLOCK_BOOTTIME);
+    start = offset - (GPS_EPOCH - LEAP_SECONDS) * SECOND;
+    if (!table)
+        return;
+    int64_t step = step_to(table, gps(system)), passed = passed_since(step, system / SECOND - saved);
+    if (step < 0 && passed < CYCLE / 2 - 1)
+        say("the system clock is %lld s behind the table's; leases go on from the table", (long long)-step);
+    if (passed > STEP_MOST)
+        say("%lld s have passed since the table was saved", (long long)passed);
+    start += (passed - step) * SECOND;
+}
+
+struct reading clock_reading(void)
+{
+    return reading_of((start + now_of(CLOCK_BOOTTIME)) / SECOND);
+}
+
+struct reading clock_saved(const struct table *table, time_t saved)
+{
+    int64_t system = now_of(CLOCK_REALTIME), seconds = gps(system), step = step_to(table, seconds);
+    return reading_of(seconds + CYCLE + passed_since(step, system / SECOND - saved) - step);
+}
+
+bool clock_watch(void)
+{
+    int64_t before = offset;
+    offset = offset_now();
+    int64_t step = offset - before;
+    if (step > -SECOND && step <= STEP_MOST * SECOND)
+        return false;
+    say("the system clock was set %s %lld s; leases go by the time since boot", step < 0 ? "back" : "ahead",
+        (long long)((llabs(step) + SECOND / 2) / SECOND));
+    return true;
+}
+
+long clock_left(void)
+{
+    return (long)(SECOND - 1 - (start + now_of(CLOCK_BOOTTIME)) % SECOND);
+}
