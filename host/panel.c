@@ -1,21 +1,50 @@
-/* panel: a panel's handshake with an LLQ server: setup, response, refresh. Prints what was sent and what came back. */
+/*
+ * panel: a panel's handshake with an LLQ server (RFC 8764): setup, response, refresh, and the end of its entry.
+ * One line a step. What is not a reply to what was sent is ignored, as if it had not come.
+ */
 #include <arpa/inet.h>
+#include <errno.h>
+#include <getopt.h>
 #include <inttypes.h>
-#include <netinet/in.h>
+#include <netdb.h>
+#include <poll.h>
+#include <stdarg.h>
 #include <stdio.h>
 #include <stdlib.h>
 #include <string.h>
+#include <sys/random.h>
 #include <sys/socket.h>
-#include <sys/time.h>
+#include <time.h>
 #include <unistd.h>
 
-enum { SETUP = 1, REFRESH = 2, OPTION_SIZE = 22, PTR = 12 };
+#include "../include/llq.h"
+
+enum { SETUP = 1, REFRESH = 2, PTR = 12, IN = 1, OPT = 41 };
+enum { HEADER = 12, OPT_FIXED = 11, LLQ_DATA = 18, MESSAGE_MOST = 1472, NAME_MOST = 255 };
 
 struct llq {
     uint16_t opcode, error;
     uint64_t number;
     uint32_t lease;
 };
+
+static const char *address, *port;
+static uint8_t question[NAME_MOST + 4];
+static size_t question_length;
+
+static void die(const char *format, ...) __attribute__((format(printf, 1, 2), noreturn));
+
+static void die(const char *format, ...)
+{
+    va_list args;
+    va_start(args, format);
+    fflush(stdout);
+    fputs("panel: ", stderr);
+    vfprintf(stderr, format, args);
+    fputc('\n', stderr);
+    va_end(args);
+    exit(1);
+}
 
 static uint8_t *put(uint8_t *at, uint64_t value, int width)
 {
@@ -32,39 +61,48 @@ static uint64_t get(const uint8_t *at, int width)
     return value;
 }
 
-/* A name of dotted text as labels; NULL where a label is empty or too long. */
-static uint8_t *put_name(uint8_t *at, const char *name)
+/* ---- messages */
+
+/* The question: a name of dotted text as labels, type PTR, class IN. RFC 1035: labels of 1 to 63 bytes, 255 in all. */
+static void set_question(const char *name)
 {
-    while (*name) {
-        size_t label = strcspn(name, ".");
-        if (label < 1 || label > 63)
-            return NULL;
+    uint8_t *at = question;
+    const char *rest = strcmp(name, ".") == 0 ? "" : name;
+    if (!*name)
+        die("'' is not a name");
+    while (*rest) {
+        size_t label = strcspn(rest, ".");
+        if (label == 0)
+            die("'%s' is not a name: a label is empty", name);
+        if (label > 63)
+            die("'%s' is not a name: a label has %zu bytes, 63 are the most", name, label);
+        if ((size_t)(at - question) + 1 + label + 1 > NAME_MOST)
+            die("'%s' is not a name: it is longer than %d bytes", name, NAME_MOST);
         *at++ = (uint8_t)label;
-        memcpy(at, name, label);
+        memcpy(at, rest, label);
         at += label;
-        name += label + (name[label] == '.');
+        rest += label + (rest[label] == '.');
     }
-    *at++ = 0;
-    return at;
+    at = put(at, 0, 1);
+    at = put(at, PTR, 2);
+    at = put(at, IN, 2);
+    question_length = (size_t)(at - question);
 }
 
-/* One question of type PTR, class IN, with one LLQ option. */
-static size_t write_query(uint8_t *message, uint16_t id, const char *name, struct llq llq)
+/* One question with one LLQ option. */
+static size_t write_query(uint8_t *message, uint16_t id, struct llq llq)
 {
     uint8_t *at = put(message, id, 2);
     at = put(at, 0x0100, 2);
     at = put(at, 0x0001000000000001, 8);
-    if (!(at = put_name(at, name)))
-        return 0;
-    at = put(at, PTR, 2);
-    at = put(at, 1, 2);
-    at = put(at, 0, 1);
-    at = put(at, 41, 2);
-    at = put(at, 1472, 2);
+    memcpy(at, question, question_length);
+    at = put(at + question_length, 0, 1);
+    at = put(at, OPT, 2);
+    at = put(at, MESSAGE_MOST, 2);
     at = put(at, 0, 4);
-    at = put(at, OPTION_SIZE, 2);
+    at = put(at, 4 + LLQ_DATA, 2);
     at = put(at, 1, 2);
-    at = put(at, 18, 2);
+    at = put(at, LLQ_DATA, 2);
     at = put(at, 1, 2);
     at = put(at, llq.opcode, 2);
     at = put(at, 0, 2);
@@ -73,45 +111,189 @@ static size_t write_query(uint8_t *message, uint16_t id, const char *name, struc
     return (size_t)(at - message);
 }
 
-static struct llq ask(int s, uint16_t id, const char *name, struct llq sent, const char *what)
+/*
+ * Is it a reply to what was sent? A response to this message number with the question as it was sent, no answers, an OPT record
+ * and in it one LLQ option of version 1 and this opcode. The LLQ number is the one sent; a grant has a fresh one, a refusal may
+ * have 0.
+ */
+static int read_reply(const uint8_t *reply, size_t length, uint16_t id, struct llq sent, struct llq *back)
 {
-    static uint8_t message[1472], reply[1472];
-    size_t length = write_query(message, id, name, sent);
-    if (length == 0) {
-        fprintf(stderr, "panel: '%s' is not a name\n", name);
-        exit(1);
+    size_t at = HEADER + question_length, found = 0;
+    if (length < at + OPT_FIXED || get(reply, 2) != id || (reply[2] & 0xfa) != 0x80 || (reply[3] & 0x0f) != 0)
+        return 0;
+    if (get(reply + 4, 8) != 0x0001000000000001 || memcmp(reply + HEADER, question, question_length) != 0)
+        return 0;
+    if (reply[at] != 0 || get(reply + at + 1, 2) != OPT || reply[at + 6] != 0 || get(reply + at + 9, 2) != length - at - OPT_FIXED)
+        return 0;
+    for (at += OPT_FIXED; at < length;) {
+        if (length - at < 4)
+            return 0;
+        size_t code = get(reply + at, 2), size = get(reply + at + 2, 2);
+        const uint8_t *data = reply + at + 4;
+        if (length - at - 4 < size)
+            return 0;
+        at += 4 + size;
+        if (code != 1)
+            continue;
+        if (size != LLQ_DATA || found++ || get(data, 2) != 1 || get(data + 2, 2) != sent.opcode)
+            return 0;
+        *back = (struct llq){sent.opcode, (uint16_t)get(data + 4, 2), get(data + 6, 8), (uint32_t)get(data + 14, 4)};
     }
-    ssize_t got = send(s, message, length, 0) < 0 ? -1 : recv(s, reply, sizeof reply, 0);
-    if (got != (ssize_t)length || get(reply, 2) != id) {
-        fprintf(stderr, "panel: no reply to the %s\n", what);
-        exit(1);
+    if (!found)
+        return 0;
+    if (sent.opcode == REFRESH)
+        return back->number == sent.number;
+    if (back->error)
+        return back->number == 0 || back->number == sent.number;
+    return sent.number ? back->number == sent.number : back->number != 0;
+}
+
+/* ---- asking */
+
+static long milliseconds(void)
+{
+    struct timespec now;
+    clock_gettime(CLOCK_MONOTONIC, &now);
+    return now.tv_sec * 1000 + now.tv_nsec / 1000000;
+}
+
+static uint16_t fresh_id(void)
+{
+    uint16_t id;
+    if (getrandom(&id, sizeof id, 0) != (ssize_t)sizeof id)
+        die("getrandom: %s", strerror(errno));
+    return id;
+}
+
+/*
+ * Send and wait for the reply. RFC 8764, section 5.1: a setup and a response are sent again after 2 s and 4 s more, and the
+ * server is down 8 s later. Section 7.1: a refresh is not sent again before 90 % of its lease has gone, so here it is sent once.
+ */
+static struct llq ask(int s, struct llq sent, const char *what)
+{
+    static const int waits[] = {2000, 4000, 8000};
+    uint8_t message[MESSAGE_MOST], reply[65535];
+    uint16_t id = fresh_id();
+    size_t length = write_query(message, id, sent);
+    for (int try = sent.opcode == SETUP ? 0 : 2; try < 3; try++) {
+        /* a port that nobody has is told of by the next send: the error is taken off, and it is sent */
+        if (send(s, message, length, 0) < 0 && (errno != ECONNREFUSED || send(s, message, length, 0) < 0))
+            die("%s port %s: %s", address, port, strerror(errno));
+        for (long end = milliseconds() + waits[try], left; (left = end - milliseconds()) > 0;) {
+            struct pollfd ready = {.fd = s, .events = POLLIN};
+            struct llq back;
+            if (poll(&ready, 1, (int)left) < 1)
+                continue;
+            ssize_t got = recv(s, reply, sizeof reply, MSG_DONTWAIT);
+            if (got >= 0 && read_reply(reply, (size_t)got, id, sent, &back))
+                return back;
+        }
     }
-    const uint8_t *option = reply + length - 18;
-    struct llq back = {(uint16_t)get(option + 2, 2), (uint16_t)get(option + 4, 2), get(option + 6, 8), (uint32_t)get(option + 14, 4)};
-    printf("%-9s number %016" PRIx64 " lease %-5u -> error %u number %016" PRIx64 " lease %u\n", what, sent.number, sent.lease, back.error,
-           back.number, back.lease);
-    return back;
+    die("no reply to the %s from %s port %s", what, address, port);
+}
+
+/* Ends in words if the server refused: RFC 8764's error numbers. */
+static void granted(struct llq back, const char *what)
+{
+    static const char *const words[] = {"", "", "the answer does not change, an LLQ is not needed (static)", "format error", "no such LLQ",
+                                        "the server does not speak version 1", "the server gives no reason (unknown error)"};
+    if (back.error == 1)
+        die("%s refused: the server is full, try again after %" PRIu32 " s", what, back.lease);
+    if (back.error > 6)
+        die("%s refused: error %u, which RFC 8764 does not have", what, back.error);
+    if (back.error)
+        die("%s refused: %s", what, words[back.error]);
+}
+
+/* ---- the socket and the options */
+
+static struct addrinfo *resolve(const char *host, const char *service, int family)
+{
+    struct addrinfo hints = {.ai_family = family, .ai_socktype = SOCK_DGRAM, .ai_flags = AI_NUMERICHOST | AI_NUMERICSERV}, *found;
+    int error = getaddrinfo(host, service, &hints, &found);
+    if (error)
+        die("%s port %s: %s", host, service, gai_strerror(error));
+    return found;
+}
+
+static int open_socket(const char *local_address, const char *local_port)
+{
+    struct addrinfo *server = resolve(address, port, AF_UNSPEC);
+    int s = socket(server->ai_family, SOCK_DGRAM | SOCK_CLOEXEC, 0);
+    if (s < 0)
+        die("socket: %s", strerror(errno));
+    if (local_address || local_port) {
+        const char *any = server->ai_family == AF_INET6 ? "::" : "0.0.0.0", *from = local_address ? local_address : any;
+        struct addrinfo *local = resolve(from, local_port ? local_port : "0", server->ai_family);
+        if (bind(s, local->ai_addr, local->ai_addrlen))
+            die("%s port %s: %s", from, local_port ? local_port : "0", strerror(errno));
+        freeaddrinfo(local);
+    }
+    /* connected: the kernel drops what comes from elsewhere */
+    if (connect(s, server->ai_addr, server->ai_addrlen))
+        die("%s port %s: %s", address, port, strerror(errno));
+    freeaddrinfo(server);
+    return s;
+}
+
+static uint32_t number_of(const char *text, const char *what, unsigned long most)
+{
+    char *end;
+    unsigned long value = strtoul(text, &end, 10);
+    if (*text < '0' || *text > '9' || *end || value < 1 || value > most)
+        die("%s '%s' is not a number from 1 to %lu", what, text, most);
+    return (uint32_t)value;
+}
+
+static void usage(FILE *out)
+{
+    fputs("usage: panel [--local-address A] [--local-port P] [--lease SECONDS] [--keep] ADDRESS PORT NAME\n"
+          "  --local-address  send from this address\n"
+          "  --local-port     send from this port; an entry belongs to it, so a panel that starts again finds its own\n"
+          "  --lease          seconds to ask for (3600); the server grants 60 to 7200\n"
+          "  --keep           leave the entry in the server's table until its lease runs out\n"
+          "  -h, --help; --version\n", out);
 }
 
 int main(int argc, char **argv)
 {
-    struct sockaddr_in server = {.sin_family = AF_INET};
-    struct timeval wait = {.tv_sec = 3};
-    if (argc != 4 || inet_pton(AF_INET, argv[1], &server.sin_addr) != 1 || strlen(argv[3]) > 250) {
-        fputs("usage: panel ADDRESS PORT NAME\n", stderr);
+    static const struct option options[] = {{"local-address", 1, 0, 'a'}, {"local-port", 1, 0, 'p'}, {"lease", 1, 0, 'l'},
+                                            {"keep", 0, 0, 'k'}, {"help", 0, 0, 'h'}, {"version", 0, 0, 'V'}, {0, 0, 0, 0}};
+    const char *local_address = NULL, *local_port = NULL;
+    uint32_t lease = 3600;
+    int keep = 0;
+    for (int o; (o = getopt_long(argc, argv, "h", options, NULL)) != -1;)
+        switch (o) {
+        case 'a': local_address = optarg; break;
+        case 'p': number_of(local_port = optarg, "--local-port", 65535); break;
+        case 'l': lease = number_of(optarg, "--lease", UINT32_MAX); break;
+        case 'k': keep = 1; break;
+        case 'h': usage(stdout); return 0;
+        case 'V': puts("panel " LLQ_VERSION); return 0;
+        default: usage(stderr); return 1;
+        }
+    if (argc - optind != 3) {
+        usage(stderr);
         return 1;
     }
-    server.sin_port = htons((uint16_t)atoi(argv[2]));
-    int s = socket(AF_INET, SOCK_DGRAM, 0);
-    setsockopt(s, SOL_SOCKET, SO_RCVTIMEO, &wait, sizeof wait);
-    if (s < 0 || connect(s, (struct sockaddr *)&server, sizeof server)) {
-        perror("panel");
-        return 1;
+    address = argv[optind];
+    number_of(port = argv[optind + 1], "port", 65535);
+    set_question(argv[optind + 2]);
+    int s = open_socket(local_address, local_port);
+    struct llq challenge = ask(s, (struct llq){SETUP, 0, 0, lease}, "setup");
+    granted(challenge, "setup");
+    printf("setup: granted number %016" PRIx64 ", lease %" PRIu32 " s\n", challenge.number, challenge.lease);
+    struct llq answer = ask(s, (struct llq){SETUP, 0, challenge.number, challenge.lease}, "response");
+    granted(answer, "response");
+    printf("response: established, %" PRIu32 " s left\n", answer.lease);
+    struct llq renewed = ask(s, (struct llq){REFRESH, 0, challenge.number, challenge.lease}, "refresh");
+    granted(renewed, "refresh");
+    printf("refresh: renewed, lease %" PRIu32 " s\n", renewed.lease);
+    if (keep) {
+        printf("kept: the entry stays for %" PRIu32 " s\n", renewed.lease);
+        return fflush(stdout) != 0;
     }
-    struct llq challenge = ask(s, 1, argv[3], (struct llq){SETUP, 0, 0, 3600}, "setup");
-    if (challenge.error)
-        return 1;
-    struct llq answer = ask(s, 2, argv[3], (struct llq){SETUP, 0, challenge.number, challenge.lease}, "response");
-    struct llq refreshed = ask(s, 3, argv[3], (struct llq){REFRESH, 0, challenge.number, 7200}, "refresh");
-    return answer.error || refreshed.error;
+    granted(ask(s, (struct llq){REFRESH, 0, challenge.number, 0}, "end"), "end");
+    puts("end: the entry is gone");
+    return fflush(stdout) != 0;
 }
