@@ -1,0 +1,252 @@
+#!/usr/bin/env bash
+# The system clock, moved by libfaketime: no wrong clock costs a lease, neither at start nor while the host runs.
+# The time since boot stays true but where it says so. Files' times are the kernel's: `touch` makes them what they would be.
+. "$(dirname "$0")/lib.sh"
+need faketime faketime || { left_out 'all of it: libfaketime (faketime) cannot be had'; passed; }
+alone
+preload=$(ls /usr/lib/*/faketime/libfaketimeMT.so.1 2>/dev/null | head -n 1)
+[ -n "$preload" ] || { left_out 'all of it: libfaketimeMT.so.1 is not there'; passed; }
+
+clock() { printf '%+d\n' "$1" >"$work/time.new" && mv "$work/time.new" "$work/time"; }
+# at DATE: how far the clock is to be moved so that it reads DATE now
+at() { printf '%+d' $(($(date -d "$1" +%s) - EPOCHSECONDS)); }
+moved=(env LD_PRELOAD="$preload" FAKETIME_TIMESTAMP_FILE="$work/time" FAKETIME_NO_CACHE=1 NO_FAKE_STAT=1)
+under=("${moved[@]}" FAKETIME_DONT_FAKE_MONOTONIC=1)
+clock +86400
+like 'the clock can be moved' "$(($("${under[@]}" date +%s) - EPOCHSECONDS))" '8639[89]|8640[0-2]'
+file() { stat -c '%i %Y %s' "$table" && sha256sum <"$table"; }
+# later SECONDS: the file's time as it were had the clock been so far ahead when it was saved
+later() { touch -d "@$(($(stat -c %Y "$table") + $1))" "$table"; }
+stamp() { stat -c '%i %y' "$table"; }
+told() { set -- $(llq 127.0.0.2 18501 a.example 1 $sign 3600); echo "${3:-none}"; } # what the response says is left
+date='[0-9]{4}-[0-9]{2}-[0-9]{2} [0-9]{2}:[0-9]{2}:[0-9]{2} UTC'
+day='86(39[89]|40[0-2])'
+
+# ---- a table with two entries, and then a box without a battery clock
+clock +0
+start --state "$table"
+since=$EPOCHSECONDS
+established 'before' 127.0.0.2 18501 a.example 3600
+sign=$number
+granted 'before: second' 127.0.0.3 18502 b.example 7200
+end TERM
+before=$(entries)
+sum=$(file)
+is 'two entries' "$(used)" 2
+
+clock "$(at '1970-01-01 00:00:05')"
+began=$EPOCHSECONDS
+begin --state "$table" --clock-wait 2
+logged '1970: it waits' "llqd: the clock reads 1970-01-01 00:00:[0-9]{2} UTC, before this program was built \($date\); waiting up to 2 s for it to be set"
+finish
+is '1970, not set' "$code $(tail -n 1 "$log")" '1 llqd: the clock was not set within 2 s'
+between '1970, not set: seconds' $((EPOCHSECONDS - began)) 2 8
+is '1970, not set: the file' "$(file)" "$sum"
+like '1970, a new table' "$(said --port $port --state "$work/none" --clock-wait 1)" \
+    "llqd: the clock reads 1970-[^"$'\n'"]*waiting up to 1 s for it to be set"$'\nllqd: the clock was not set within 1 s\nexit 1'
+is '1970: no table is made' "$(ls "$work"/none* 2>/dev/null)" ''
+
+begin --state "$table" --clock-wait 60
+logged '1970 again: it waits' "llqd: the clock reads 1970-.* waiting up to 60 s for it to be set"
+end TERM
+is '1970: SIGTERM while it waits' "$code" 0
+is '1970: SIGTERM while it waits: the file' "$(file)" "$sum"
+
+begin --state "$table"
+logged '1970: it waits 300 s by itself' "llqd: the clock reads 1970-.* waiting up to 300 s for it to be set"
+patience=1
+is '1970: nobody is answered' "$(llq 127.0.0.2 18509 a.example 2 1 60)" ''
+patience=3
+is '1970: the file while it waits' "$(file)" "$sum"
+clock +0
+logged '1970, set right' "llqd: 16 slots, 2 entries taken up from $table"
+is '1970, set right: entries' "$(entries)" "$before"
+lives '1970, set right: told' "$(told)" 3600 $since
+lives '1970, set right: shown' "$(left 18502)" 7200 $since
+
+# ---- a day ahead for two seconds while it runs
+saved=$(stamp)
+again() { [ "$(stamp)" != "$saved" ]; }
+over() { [ $EPOCHSECONDS -gt $((began + 2)) ]; }
+began=$EPOCHSECONDS
+clock +86400
+logged 'a day ahead' "llqd: the system clock was set ahead $day s; leases go by the time since boot"
+await 5 again || fail 'a day ahead: the table was not saved again'
+await 5 over
+lives 'a day ahead: told' "$(told)" 3600 $since
+saved=$(stamp)
+clock +0
+logged 'back again' "llqd: the system clock was set back $day s; leases go by the time since boot"
+await 5 again || fail 'back again: the table was not saved again'
+is 'a day ahead and back: entries' "$(entries)" "$before"
+lives 'a day ahead and back: told' "$(told)" 3600 $since
+lives 'a day ahead and back: shown' "$(left 18502)" 7200 $since
+is 'nothing else was said' "$(lines 'llqd: the system clock.*|llqd: .* tick|llqd: .* have passed .*')" 2
+
+# ---- ended while a day ahead, started again while still ahead; then set right, and started again
+clock +86400
+twice() { [ "$(lines 'llqd: the system clock was set ahead.*')" = 2 ]; }
+await 8 twice || fail 'a day ahead again: no second line'
+end 9
+later 86400
+start --state "$table"
+logged 'still ahead: taken up' "llqd: 16 slots, 2 entries taken up from $table"
+is 'still ahead: no step' "$(lines 'llqd: .*(clock|tick|passed).*')" 0
+lives 'still ahead: told' "$(told)" 3600 $since
+saved=$(stamp)
+clock +0
+logged 'set right' "llqd: the system clock was set back $day s; leases go by the time since boot"
+await 5 again || fail 'set right: the table was not saved again'
+end 9
+start --state "$table"
+is 'started again by the right clock: entries' "$(entries)" "$before"
+lives 'started again by the right clock: told' "$(told)" 3600 $since
+lives 'started again by the right clock: shown' "$(left 18502)" 7200 $since
+
+# ---- a year back while it runs: leases go on
+clock -31536000
+logged 'a year back' 'llqd: the system clock was set back 3153(599[89]|600[0-2]) s; leases go by the time since boot'
+lives 'a year back: told' "$(told)" 3600 $since
+first=$(told)
+sleep 2.2
+between 'a year back: leases go on' $((first - $(told))) 2 30
+clock +0
+logged 'set right after a year back' 'llqd: the system clock was set ahead 31.* s; leases go by the time since boot'
+end TERM
+is 'after all of it' "$(entries)" "$before"
+
+# ---- away for 7000 s: what ran out meanwhile is gone, the rest has what is left
+rm "$table"
+start --state "$table"
+since=$EPOCHSECONDS
+established 'a new table' 127.0.0.2 18501 a.example 3600
+sign=$number
+granted 'a new table: second' 127.0.0.3 18502 b.example 7200
+end TERM
+before=$(entries)
+cp -p "$table" "$work/copy"
+clock +7000
+like 'away: --show' "$(show)" '.* UTC, 1:5[67]:[0-9]{2} ago'$'\n'.*$'\n''run out since it was saved: 1'
+start --state "$table" --verbose
+logged 'away' 'llqd: (699[5-9]|70[0-4][0-9]) s have passed since the table was saved'
+is 'away: the other' "$(entries)" "$(grep ' 18502 ' <<<"$before")"
+lives 'away: what it has left' "$(left 18502)" 200 $since
+end TERM
+
+# ---- the file's time: a clock more than ten minutes before it is waited for; the lesser of the two times passed counts
+cp -p "$work/copy" "$table"
+clock +0
+later 660
+sum=$(file)
+begin --state "$table" --clock-wait 1
+logged '11 minutes: it waits' "llqd: the clock reads $date, more than 10 minutes before $table was saved \($date\); waiting up to 1 s for it to be set"
+finish
+is '11 minutes, not set' "$code $(tail -n 1 "$log")" '1 llqd: the clock was not set within 1 s'
+is '11 minutes, not set: the file' "$(file)" "$sum"
+begin --state "$table" --clock-wait 60
+logged '11 minutes again: it waits' "llqd: the clock reads .* waiting up to 60 s for it to be set"
+clock +660
+logged '11 minutes, set' "llqd: 16 slots, 2 entries taken up from $table"
+lives '11 minutes, set: told' "$(told)" 3600 $since
+end TERM
+cp -p "$work/copy" "$table"
+clock +100
+later 640
+start --state "$table"
+is '9 minutes are not waited for' "$(lines 'llqd: the clock reads.*')" 0
+between '9 minutes: saved just now' "$(told)" 3590 3600
+end TERM
+cp -p "$work/copy" "$table"
+clock +0
+later -7000
+start --state "$table"
+is 'an old time of the file costs no lease' "$(entries)" "$before"
+lives 'an old time of the file: told' "$(told)" 3600 $since
+end TERM
+
+# ---- started a day ahead, then set right: the table's own clock is a day ahead
+rm "$table"
+clock +86400
+start --state "$table"
+since=$EPOCHSECONDS
+established 'started a day ahead' 127.0.0.2 18501 a.example 3600
+sign=$number
+before=$(entries)
+clock +0
+logged 'started a day ahead: set right' "llqd: the system clock was set back $day s; leases go by the time since boot"
+end TERM
+start --state "$table"
+logged 'behind the table' "llqd: the system clock is $day s behind the table's; leases go on from the table"
+is 'behind the table: entries' "$(entries)" "$before"
+lives 'behind the table: told' "$(told)" 3600 $since
+end TERM
+later -100
+start --state "$table"
+logged 'behind the table, by the file'\''s time' 'llqd: (9[5-9]|1[0-4][0-9]) s have passed since the table was saved'
+lives 'behind the table, by the file'\''s time: told' "$(told)" 3500 $since
+end TERM
+
+# ---- 14 years ahead: more than half a cycle of the ten-bit week. Nothing can be kept, but leases must not stand still.
+clock $((14 * 31536000))
+start --state "$table"
+is '14 years ahead: entries' "$(entries)" ''
+is '14 years ahead: no step back' "$(lines 'llqd: .* behind .*')" 0
+established '14 years ahead' 127.0.0.2 18501 a.example 3600
+sign=$number
+sleep 2.2
+between '14 years ahead: leases go on' $((3600 - $(told))) 2 30
+end TERM
+
+# ---- the ten-bit week begins again on 2038-11-20 23:59:42 UTC: run across it, and started again across it
+rm "$table"
+roll=$(at '2038-11-20 23:59:34')
+clock $roll
+start --state "$table"
+since=$EPOCHSECONDS
+established 'before the roll-over' 127.0.0.2 18501 a.example 3600
+sign=$number
+before=$(entries)
+cp -p "$table" "$work/copy"
+week=$(date -d '2038-11-20 23:59:42' +%s)
+[ $((EPOCHSECONDS + roll)) -lt $week ] || fail 'the machine is too slow: the roll-over was over before the setup'
+across() { [ $((EPOCHSECONDS + roll)) -gt $week ]; }
+await 20 across || fail 'no roll-over'
+lives 'across the roll-over: told' "$(told)" 3600 $since
+is 'across the roll-over: entries' "$(entries)" "$before"
+lives 'across the roll-over: shown' "$(left 18501)" 3600 $since
+granted 'a setup after it' 127.0.0.3 18502 b.example 3600
+is 'across the roll-over: no step' "$(lines 'llqd: .*(clock|tick|passed).*')" 0
+end TERM
+later $roll
+start --state "$table"
+logged 'started again after it' "llqd: 16 slots, 2 entries taken up from $table"
+lives 'started again after it: told' "$(told)" 3600 $since
+end TERM
+cp -p "$work/copy" "$table"
+later $roll
+clock $((roll + 40))
+start --state "$table"
+logged 'started again across it' "llqd: 16 slots, 1 entr(y|ies) taken up from $table"
+lives 'started again across it: told' "$(told)" 3560 $since
+end TERM
+
+# ---- suspended for 75 s: the time since boot goes on with the clock, and leases with it
+rm "$table"
+clock +0
+under=("${moved[@]}")
+start --state "$table" --verbose
+since=$EPOCHSECONDS
+established 'before the suspend' 127.0.0.2 18501 a.example 3600
+sign=$number
+granted 'a short lease' 127.0.0.3 18502 b.example 60
+clock +75
+logged 'suspended' 'llqd: 7[4-9] s since the last tick'
+logged 'the short lease' 'run out: 1'
+kill -USR1 $host
+logged 'the short lease is counted' '  entries +run out 1'
+lives 'suspended: told' "$(told)" 3525 $since
+is 'suspended: no step of the clock' "$(lines 'llqd: the system clock.*')" 0
+is 'suspended: entries' "$(entries | cut -d ' ' -f 1-3)" '127.0.0.2 18501 established'
+end TERM
+
+passed

@@ -1,0 +1,58 @@
+#!/usr/bin/env bash
+# Setup, response, refresh and end, the limits, the listed address; kill -9 and SIGTERM, and the entries taken up again.
+. "$(dirname "$0")/lib.sh"
+alone
+
+printf '127.0.0.5 2 3 # the sign\n' >"$work/roster"
+start --slots 6 --roster "$work/roster" --state "$table"
+is 'the start' "$(cat "$log")" "llqd: listening on 127.0.0.1 port $port"$'\n'"llqd: 6 slots, 0 entries taken up: $table is new"
+
+# ---- setup, repeated setup, response, refresh, end
+granted setup 127.0.0.2 18501 panel.example 3600
+[ "$number" != 0 ] || fail 'setup: number 0'
+is 'another spelling is the same question' "$(llq 127.0.0.2 18501 Panel.EXAMPLE 1 0 60)" "0 $number 3600"
+is 'a refresh before the response' "$(llq 127.0.0.2 18501 panel.example 2 $number 60)" "4 $number 0"
+is 'a response from another port' "$(llq 127.0.0.2 18502 panel.example 1 $number 3600)" '4 0 0'
+since=$EPOCHSECONDS
+set -- $(llq 127.0.0.2 18501 panel.example 1 $number 3600)
+is response "${1:-} ${2:-}" "0 $number"
+lives 'the lease told by the response' "${3:-}" 3600 $since
+is refresh "$(llq 127.0.0.2 18501 panel.example 2 $number 9000)" "0 $number 7200"
+is end "$(llq 127.0.0.2 18501 panel.example 2 $number 0)" "0 $number 0"
+is 'a refresh of what has ended' "$(llq 127.0.0.2 18501 panel.example 2 $number 60)" "4 $number 0"
+
+# ---- a chatty client on many ports is held to its limit, and the listed address still gets its share
+for i in 1 2 3 4; do granted "chatty setup $i" 127.0.0.3 1851$i chatty.example 3600; done
+is 'chatty setup 5: at its limit' "$(llq 127.0.0.3 18515 chatty.example 1 0 3600)" '1 0 60'
+is 'another address: every free slot is reserved' "$(llq 127.0.0.4 18521 other.example 1 0 3600)" '1 0 60'
+since=$EPOCHSECONDS
+established 'the listed address' 127.0.0.5 18531 sign.example 3600
+sign=$number
+granted 'its second' 127.0.0.5 18532 sign.example 3600
+
+# ---- kill -9 and restart: entries and their remaining life are kept
+before=$(entries)
+sleep 2
+end 9
+start --state "$table"
+logged 'the entries taken up' "llqd: 6 slots, 6 entries taken up from $table"
+is 'the entries after kill -9' "$(entries)" "$before"
+is 'the slots shown' "$(show | tail -n 1)" 'slots: 6, used 6, free 0, reserved 0'
+is 'the listed address shown' "$(show | sed -n 's/  */ /g; s/^ 127.0.0.5 \([0-9] .*\)/\1/p')" '2 3 2 at its share'
+like 'the sign shown' "$(show | grep ' 18531 ' | tr -s ' ')" \
+    " 127.0.0.5 18531 established $(printf %016x $sign) 1:00:00 0:59:[0-9]{2} sign.example. IN PTR"
+lives 'what is left after the restart' "$(left 18531)" 3600 $since
+is 'a refresh after the restart' "$(llq 127.0.0.5 18531 sign.example 2 $sign 120)" "0 $sign 120"
+between 'what is left after the refresh' "$(left 18531)" 100 120
+
+# ---- SIGTERM and SIGINT
+before=$(entries)
+end TERM
+is 'SIGTERM' "$code $(tail -n 1 "$log")" '0 llqd: stopped'
+start --state "$table"
+end INT
+is 'SIGINT' "$code $(tail -n 1 "$log")" '0 llqd: stopped'
+is 'the entries after both' "$(entries)" "$before"
+is 'no other file is left' "$(ls -A "$work")" $'log\nroster\ntable'
+
+passed

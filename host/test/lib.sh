@@ -1,0 +1,172 @@
+# What the host's tests share: a network of their own, the host started and ended, dig as its client, and the checks.
+# A test sources this file, names the commands that it needs (need), goes into its own network (alone), and ends with `passed`.
+set -u
+export LC_ALL=C TZ=UTC
+test=$(basename "$0" .sh)
+LLQD=$(realpath -m "${LLQD:-$(dirname "${BASH_SOURCE[0]}")/../../target/host/llqd}")
+checks=0
+host=              # process id of the host under test, empty if none runs
+port=              # its port
+log=               # its lines
+under=()           # what it is started with, as env, setpriv or nsenter: something that becomes the host
+server=127.0.0.1   # where dig asks
+via=()             # what dig is started with
+patience=3         # seconds that dig waits for a reply
+type=PTR           # the type that dig asks for
+mounted=()         # folders to unmount with it
+
+fail() { echo "$test: $1" >&2; exit 1; }
+left_out() { echo "$test: left out: $1"; }
+passed() { echo "$test: $checks checks passed"; exit 0; }
+check() { checks=$((checks + 1)); }
+
+# ---- the test itself
+
+# need COMMAND PACKAGE: the command is there, or the package that has it can be installed
+need() {
+    command -v "$1" >/dev/null && return
+    [ -n "${LLQ_ALONE:-}" ] || { apt-get update -qq && apt-get install -y -qq "$2"; } >/dev/null 2>&1
+    command -v "$1" >/dev/null
+}
+
+# Go on in a network and a mount table of one's own, where they can be had: no port is in use there, nobody else's datagrams
+# come in, and nothing stays mounted. own=1 where it is so.
+alone() {
+    local how
+    if [ -z "${LLQ_ALONE:-}" ]; then
+        [ -x "$LLQD" ] || fail "$LLQD is not there; make it first"
+        need dig bind9-dnsutils || { left_out "all of it: dig (bind9-dnsutils) cannot be had"; passed; }
+        for how in '-n -m' '-r -n -m'; do
+            unshare $how ip link set lo up 2>/dev/null && LLQ_ALONE=1 exec unshare $how "$BASH" "$0"
+        done
+        export LLQ_ALONE=0
+    fi
+    own=$LLQ_ALONE
+    [ "$own" = 0 ] || ip link set lo up
+    work=$(mktemp -d) && log=$work/log && table=$work/table && port=$(free_port)
+    trap clean EXIT
+    trap 'exit 1' INT TERM HUP
+}
+
+clean() {
+    local code=$? one
+    trap '' INT TERM HUP
+    { for one in $(jobs -pr); do kill -9 "$one"; wait "$one"; done; } 2>/dev/null
+    for one in ${mounted[@]+"${mounted[@]}"}; do umount -l "$one"; done 2>/dev/null
+    chmod -R u+rwX "$work" 2>/dev/null
+    rm -rf "$work"
+    exit $code
+}
+
+# A UDP port that nobody uses, below those that the system hands out.
+free_port() {
+    local try
+    for try in $(seq 100); do
+        try=$((18000 + RANDOM % 500))
+        grep -qi ":$(printf %04x $try) " /proc/net/udp /proc/net/udp6 2>/dev/null || { echo $try; return; }
+    done
+    fail 'no port is free'
+}
+
+# await SECONDS COMMAND..: try it until it is true; false if it is not in that time
+await() {
+    local until=$((SECONDS + 1 + $1))
+    shift
+    while ! "$@"; do
+        [ $SECONDS -lt $until ] || return 1
+        sleep 0.05
+    done
+}
+
+# ---- checks
+
+is() { if [ "$2" = "$3" ]; then check; else fail "$1: '$2', not '$3'"; fi; }
+like() { if [[ $2 =~ ^($3)$ ]]; then check; else fail "$1: '$2', not like '$3'"; fi; }
+between() { if [[ $2 =~ ^[0-9]+$ ]] && [ "$2" -ge "$3" ] && [ "$2" -le "$4" ]; then check; else fail "$1: '$2', not $3 to $4"; fi; }
+
+# logged WHAT LINE [SECONDS]: a line of the host, as an extended regular expression, is there or comes
+logged() {
+    if await "${3:-8}" grep -qxE -- "$2" "$log"; then check; else fail "$1: no line '$2', but: $(tail -n 12 "$log")"; fi
+}
+lines() { grep -cxE -- "$1" "$log"; }
+
+# lives WHAT SEEN LEASE SINCE: what is left of a lease that was given at SINCE (EPOCHSECONDS), with slack for a busy machine and
+# for the whole seconds that the host counts in at each restart
+lives() { between "$1" "$2" $(($3 - (EPOCHSECONDS - $4) - 4)) $(($3 - (EPOCHSECONDS - $4) + 6)); }
+
+# ---- the host
+
+begin() { : >"$log"; ${under[@]+"${under[@]}"} "$LLQD" --port "$port" "$@" 2>>"$log" & host=$!; }
+ready() { grep -qE '^llqd: [0-9]+ slots, [0-9]+ entr(y|ies) taken up' "$log" || gone; }
+gone() { ! kill -0 "$host" 2>/dev/null; }
+
+# start OPTION..: the host, until it is ready
+start() {
+    begin "$@"
+    await 15 ready && ! gone || fail "the host did not start: $(tail -n 3 "$log")"
+}
+
+# finish: wait for the host's end; its exit code in $code
+finish() {
+    { await 10 gone; } 2>/dev/null || fail "the host did not end within 10 s${1:+ of $1}: $(tail -n 3 "$log")"
+    { wait "$host"; code=$?; } 2>/dev/null
+    host=
+}
+end() { kill -"$1" "$host"; finish "SIG$1"; }
+
+# said OPTION..: what a host prints that ends by itself, and its exit code
+said() { timeout -k 2 10 ${under[@]+"${under[@]}"} "$LLQD" "$@" 2>&1 </dev/null; echo "exit $?"; }
+
+# refused WHAT LINE OPTION..: it says this one line, and exit 1
+refused() { is "$1" "$(said "${@:3}")" "llqd: $2"$'\nexit 1'; }
+
+# ---- its client
+
+option() { printf '%04x%04x%04x%016x%08x' "${4:-1}" "$1" "${5:-0}" "$2" "$3"; }
+
+# ask FROM PORT NAME [WORD..]: what dig prints
+ask() {
+    timeout $((patience + 9)) ${via[@]+"${via[@]}"} dig @"$server" -p "$port" -b "$1#$2" +tries=1 +time="$patience" +nocookie \
+        "${@:4}" -t "$type" -q "$3" 2>&1
+}
+
+# llq FROM PORT NAME OPCODE NUMBER LEASE: "error number lease" of the reply's LLQ option; nothing where none came
+llq() {
+    ask "$1" "$2" "$3" +ednsopt=1:"$(option "$4" "$5" "$6")" |
+        sed -n 's/^; LLQ: Version: 1, Opcode: '"$4"', Error: \([0-9]*\), Identifier: \([0-9]*\), Lifetime: \([0-9]*\).*/\1 \2 \3/p'
+}
+
+# granted WHAT FROM PORT NAME LEASE: a setup that is granted; its number in $number
+granted() {
+    set -- "$1" "$5" $(llq "$2" "$3" "$4" 1 0 "$5")
+    is "$1" "${3:-none} ${5:-none}" "0 $2"
+    number=$4
+}
+
+# established WHAT FROM PORT NAME LEASE: setup and response; its number in $number
+established() {
+    granted "$@"
+    set -- "$1" $(llq "$2" "$3" "$4" 1 "$number" "$5")
+    is "$1: response" "${2:-none} ${3:-none}" "0 $number"
+}
+
+# message FILE NAMES OPTION..: a query as bytes; a question of type PTR for each name, an LLQ option for each of the options (hexadecimal)
+message() {
+    local file=$1 name label one questions= options=
+    for name in $2; do
+        for label in ${name//./ }; do questions+=$(printf '%02x' ${#label})$(printf %s "$label" | od -An -v -tx1 | tr -d ' \n'); done
+        questions+=00000c0001
+    done
+    for one in "${@:3}"; do options+=$(printf '0001%04x' $((${#one} / 2)))$one; done
+    one=12340100$(printf '%04x' $(wc -w <<<"$2"))000000000001${questions}00002905c000000000$(printf '%04x' $((${#options} / 2)))$options
+    printf "$(sed 's/../\\x&/g' <<<"$one")" >"$file"
+}
+
+# ---- its table, as --show prints it
+
+show() { ${under[@]+"${under[@]}"} "$LLQD" --show "${1:-$table}"; }
+# entries [FILE]: ADDRESS PORT STATE NUMBER LEASE QUESTION, in order, without what is left
+entries() { show "$@" | awk '/^entries:/ { on = 1; next } /^slots:/ { on = 0 } on && $1 != "ADDRESS" { $6 = ""; print }' | sort; }
+# left PORT [FILE]: seconds that its entry has left
+left() { show "${@:2}" | awk -v port="$1" '$2 == port && split($6, t, ":") == 3 { print t[1] * 3600 + t[2] * 60 + t[3] }'; }
+used() { show "$@" | sed -n 's/^slots: .* used \([0-9]*\),.*/\1/p'; }
