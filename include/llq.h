@@ -27,6 +27,7 @@
 #include <stddef.h>
 #include <stdint.h>
 
+/* Of the header, the archive and the host together. */
 #define LLQ_VERSION "0.2.0"
 
 #ifdef __cplusplus

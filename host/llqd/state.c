@@ -216,9 +216,7 @@ enum save state_save(const char *path, const struct table *table, int *error)
     locked = file;
     bool synced = sync_folder(path);
     *error = synced ? EWOULDBLOCK : errno;
-    if (!named(path, locked))
-        return SAVE_FAILED;
-    return synced ? SAVE_DONE : SAVE_UNSURE;
+    return synced && named(path, locked) ? SAVE_DONE : SAVE_UNSURE;
 }
 
 const char *state_error(int error)

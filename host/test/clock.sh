@@ -23,14 +23,18 @@ date='[0-9]{4}-[0-9]{2}-[0-9]{2} [0-9]{2}:[0-9]{2}:[0-9]{2} UTC'
 day='86(39[89]|40[0-2])'
 
 # ---- a table with two entries, and then a box without a battery clock
+# two WHAT: a new table with two entries, of 3,600 s and 7,200 s
+two() {
+    start --state "$table"
+    since=$EPOCHSECONDS
+    established "$1" 127.0.0.2 18501 a.example 3600
+    sign=$number
+    granted "$1: second" 127.0.0.3 18502 b.example 7200
+    end TERM
+    before=$(entries)
+}
 clock +0
-start --state "$table"
-since=$EPOCHSECONDS
-established 'before' 127.0.0.2 18501 a.example 3600
-sign=$number
-granted 'before: second' 127.0.0.3 18502 b.example 7200
-end TERM
-before=$(entries)
+two 'before'
 sum=$(file)
 is 'two entries' "$(used)" 2
 
@@ -117,13 +121,7 @@ is 'after all of it' "$(entries)" "$before"
 
 # ---- away for 7000 s: what ran out meanwhile is gone, the rest has what is left
 rm "$table"
-start --state "$table"
-since=$EPOCHSECONDS
-established 'a new table' 127.0.0.2 18501 a.example 3600
-sign=$number
-granted 'a new table: second' 127.0.0.3 18502 b.example 7200
-end TERM
-before=$(entries)
+two 'a new table'
 cp -p "$table" "$work/copy"
 clock +7000
 like 'away: --show' "$(show)" '.* UTC, 1:5[67]:[0-9]{2} ago'$'\n'.*$'\n''run out since it was saved: 1'
