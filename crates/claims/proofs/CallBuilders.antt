@@ -54,18 +54,27 @@ askingTwo =
 abbrev pub rosterOf : ℕ → ℕ → ℕ → List ℕ
 rosterOf address share limit = 3 ∷ 0 ∷ 0 ∷ 0 ∷ 0 ∷ 0 ∷ 0 ∷ 0 ∷ 0 ∷ 0 ∷ 0 ∷ 0 ∷ 0 ∷ 0 ∷ 0 ∷ 0 ∷ address ∷ share ∷ limit ∷ []
 
--- CALLS at the first second
+-- CALLS at a second of the first week, and at the first second
+abbrev pub fromAt : ℕ → ℕ → ℕ → List ℕ → ServeCall
+fromAt second address port d = datagramAt 0 second (record { address = address; port = port }) 7 d 100
+
 abbrev pub from : ℕ → ℕ → List ℕ → ServeCall
-from address port d = datagramAt 0 0 (record { address = address; port = port }) 7 d 100
+from address port d = fromAt 0 address port d
 
 pub make-in-range : (r : List ℕ) → areBytes r → MakeInRange (makeAt 0 0 r)
 make-in-range r e = record { week = lit< tt; second = lit< tt; roster = bytes-by-test r e }
 
+pub tick-at-in-range : (x : ℕ) → x < 2 ^ 32 → TickInRange (tickAt 0 x)
+tick-at-in-range x hx = record { week = lit< tt; second = hx }
+
 pub tick-in-range : TickInRange (tickAt 0 0)
-tick-in-range = record { week = lit< tt; second = lit< tt }
+tick-in-range = tick-at-in-range 0 (lit< tt)
+
+pub from-at-in-range : (x a p : ℕ) (d : List ℕ) → x < 2 ^ 32 → a < 2 ^ 128 → p < 2 ^ 16 → areBytes d → ServeInRange (fromAt x a p d)
+from-at-in-range x a p d hx ha hp e = record { week = lit< tt; second = hx; address = ha; port = hp; random = lit< tt; datagram = bytes-by-test d e }
 
 pub from-in-range : (a p : ℕ) (d : List ℕ) → a < 2 ^ 128 → p < 2 ^ 16 → areBytes d → ServeInRange (from a p d)
-from-in-range a p d ha hp e = record { week = lit< tt; second = lit< tt; address = ha; port = hp; random = lit< tt; datagram = bytes-by-test d e }
+from-in-range a p d = from-at-in-range 0 a p d (lit< tt)
 
 -- A TABLE'S BUFFER of n slots, and a reply's of the room that a call says
 abbrev pub tableBuffer : ℕ → List ℕ

@@ -6,7 +6,7 @@ use Rattle.claims.specs.Others.{KeepsOthers}
 use Rattle.claims.specs.Established.{EstablishedExactly}
 use Rattle.claims.specs.Tick.{Ticking}
 use Rattle.claims.specs.Demand3.{Demand3}
-use Rattle.claims.specs.Samples.{Samples}
+use Rattle.claims.specs.Samples.{Samples, SpanSamples}
 use Rattle.claims.specs.SoundSamples.{SoundSamples}
 use Rattle.claims.specs.Pins.{Pinned}
 use Rattle.claims.specs.Reply.{ReplyClaim}
@@ -14,7 +14,7 @@ use Rattle.claims.specs.Reading.{ReadsQueries}
 use Rattle.claims.specs.AnySound.{AnySound}
 use Rattle.claims.specs.LiveAge.{LiveAge}
 use Rattle.claims.specs.GrantedNumbers.{GrantedNumbers}
-use Rattle.claims.specs.Repeats.{SetupRepeats, SetupTwice}
+use Rattle.claims.specs.Repeats.{SetupRepeats, SetupTwice, ToldLeases}
 use Rattle.claims.specs.StoredNames.{StoredNames}
 use Rattle.claims.specs.SoundRules.{SoundExactly}
 use Rattle.claims.specs.NumbersInBytes.{NumbersInBytes}
@@ -29,13 +29,14 @@ use Rattle.claims.proofs.Others.{keeps-others}
 use Rattle.claims.proofs.Established.{established-exactly}
 use Rattle.claims.proofs.Tick.{ticking}
 use Rattle.claims.proofs.Demand3.{demand3}
-use Rattle.claims.proofs.Samples.{samples-hold, sound-samples-hold, pinned}
+use Rattle.claims.proofs.Samples.{samples-hold, span-samples-hold, sound-samples-hold, pinned}
 use Rattle.claims.proofs.Reply.{reply-claim}
 use Rattle.claims.proofs.Reading.{reads-queries}
 use Rattle.claims.proofs.AnySound.{any-sound}
 use Rattle.claims.proofs.LiveAge.{live-age}
 use Rattle.claims.proofs.GrantedNumbers.{granted-numbers}
 use Rattle.claims.proofs.Repeats.{setup-repeats, setup-twice}
+use Rattle.claims.proofs.ToldLeases.{told-leases}
 use Rattle.claims.proofs.StoredNames.{stored-names}
 use Rattle.claims.proofs.SoundRules.{sound-exactly}
 use Rattle.claims.proofs.NumbersInBytes.{numbers-in-bytes}
@@ -57,8 +58,9 @@ pub record Claims (s : Server) : Type 0 where
   pub ticking : Ticking s
   -- 5: demand 3, over every list of makings, datagrams and ticks on one table
   pub demand3 : Demand3 s
-  -- 6: document 01's samples, W1 to W10, and W11 with the table's bytes
+  -- 6: document 01's samples, W1 to W10, those of a response's span, and W11 with the table's bytes
   pub samples : Samples
+  pub spanSamples : SpanSamples
   pub pinned : Pinned s
   pub soundSamples : SoundSamples
   -- 7: an answered datagram's reply, place by place
@@ -69,9 +71,11 @@ pub record Claims (s : Server) : Type 0 where
   pub anySound : AnySound s
   -- a live entry's age is the sum of the forward steps since its stamp
   pub liveAge : LiveAge s
-  -- a setup sent again gets what it got
+  -- a setup sent again gets its number and the life that remains
   pub setupRepeats : SetupRepeats
   pub setupTwice : SetupTwice
+  -- a lease that was told stays a right response's while the entry keeps it
+  pub toldLeases : ToldLeases s
   -- the number granted is the first that is neither 0 nor in use
   pub numbers : GrantedNumbers
   -- a table is sound exactly by document 01's rules, told line by line and slot by slot
@@ -89,7 +93,7 @@ pub record Claims (s : Server) : Type 0 where
   -- a call's numbers and bytes are settled, and so are the public contracts
   pub calls : CallsExactly s
   pub contracts : ContractsExactly
-  -- twelve wrong servers break a claim each
+  -- nineteen wrong servers break a claim each
   pub refuted : Refuted
 
 pub claims : Claims model
@@ -102,6 +106,7 @@ claims =
       ticking = ticking;
       demand3 = demand3;
       samples = samples-hold;
+      spanSamples = span-samples-hold;
       pinned = pinned;
       soundSamples = sound-samples-hold;
       reply = reply-claim;
@@ -110,6 +115,7 @@ claims =
       liveAge = live-age;
       setupRepeats = setup-repeats;
       setupTwice = setup-twice;
+      toldLeases = told-leases;
       numbers = granted-numbers;
       sound = sound-exactly;
       storedNames = stored-names;

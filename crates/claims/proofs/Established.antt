@@ -2,24 +2,36 @@
 use Prim.Native.Nat.{ℕ, zero, suc, _≤_, _<_}
 use native.Mathlib.Nat.{eq-or-lt-of-le}
 use native.Mathlib.Omega.{arith}
-use mathlib.Core.Path.{_≡_, refl, sym, _∙_, subst}
+use mathlib.Core.Path.{_≡_, refl, sym, ap, _∙_, subst}
 use mathlib.Core.Bool.{true}
 use mathlib.Core.List.{List}
 use mathlib.Core.Logic.{_≢_, ⊎-elim}
 use Rattle.model.specs.Clock.{Clock}
 use Rattle.model.specs.Query.{question, llqOption}
-use Rattle.model.specs.Table.{Entry, held, Table, readTable}
+use Rattle.model.specs.Table.{Entry, held, readTable}
 use Rattle.model.specs.Serve.{slotOf, establish}
 use Rattle.model.specs.Calls.{ServeCall, serve}
 use Rattle.model.specs.Meets.{model}
 use Rattle.model.proofs.ListLaws.{never}
 use Rattle.claims.specs.Changes.{RunOut, RightRefresh, Datagram, doneOptions}
-use Rattle.claims.specs.Established.{ResponseTo, RefreshOf, FirstResponse, StillHeld, Pending, PendingAfter, EstablishedExactly}
-use Rattle.claims.proofs.Changes.EntryAfter.{EntryAfter, stays, confirmed, renewed, ended, entry-after}
+use Rattle.claims.specs.Established.{movedCount, ResponseTo, RefreshOf, FirstResponse, StillHeld, Pending, PendingAfter, EstablishedExactly}
+use Rattle.claims.proofs.Changes.EntryAfter.{EntryAfter, stays, confirmed, renewed, ended, clock-after, entry-after}
 use Rattle.claims.proofs.Changes.{datagram-done, read-left}
 
 -- AN ENTRY PENDING BEFORE AN ANSWERED DATAGRAM, followed from option to option
 module _ (c : ServeCall) (before after : List ℕ) (d : Datagram c before after) (j : ℕ) (e : Entry) (p : Pending c (readTable before) j e) where
+  abbrev running : ℕ
+  running = movedCount c (readTable before)
+
+  -- the running count stays from option to option
+  running-at : (m : ℕ) → m ≤ doneOptions c → d .tables m .clock .running ≡ running
+  running-at zero h = ap (λ (k : Clock). k .running) (d .moved .clock)
+  running-at (suc m) h =
+      let l : m < doneOptions c = omega arith in
+      ap (λ (k : Clock). k .running)
+      (clock-after (c .sender) (question (c .datagram) m) (llqOption (c .datagram) m) (d .tables m) (d .tables (suc m)) (d .options m l .change))
+      ∙ running-at m (omega arith)
+
   -- what option m leaves of an entry in slot j
   after-at : (m : ℕ) (x : Entry) → m < doneOptions c → slotOf (d .tables m) j ≡ held x
       → EntryAfter (c .sender) (question (c .datagram) m) (llqOption (c .datagram) m) (d .tables m) (d .tables (suc m)) j x
@@ -27,7 +39,7 @@ module _ (c : ServeCall) (before after : List ℕ) (d : Datagram c before after)
       entry-after (c .sender) (question (c .datagram) m) (llqOption (c .datagram) m) (d .tables m) (d .tables (suc m)) (d .options m h .change) j x q
 
   -- no right response yet: it is as it was
-  untouched-to : (m : ℕ) → m ≤ doneOptions c → ((i : ℕ) → i < m → ResponseTo c i e → ⊥) → slotOf (d .tables m) j ≡ held e
+  untouched-to : (m : ℕ) → m ≤ doneOptions c → ((i : ℕ) → i < m → ResponseTo running c i e → ⊥) → slotOf (d .tables m) j ≡ held e
   untouched-to zero h none =
       d .moved .kept j e (p .here) (λ r. p .live (subst (λ (k : Clock). RunOut (k .running) e) (d .moved .clock) r))
   untouched-to (suc m) h none = go (after-at m e (omega arith) (untouched-to m (omega arith) (λ i l. none i (omega arith))))
@@ -35,18 +47,19 @@ module _ (c : ServeCall) (before after : List ℕ) (d : Datagram c before after)
       go : EntryAfter (c .sender) (question (c .datagram) m) (llqOption (c .datagram) m) (d .tables m) (d .tables (suc m)) j e
           → slotOf (d .tables (suc m)) j ≡ held e
       go (stays z) = z
-      go (confirmed b right z) = absurd (none m (omega arith) right)
+      go (confirmed b right z) = absurd (none m (omega arith) (subst (λ (r : ℕ). ResponseTo r c m e) (running-at m (omega arith)) right))
       go (renewed right n z) = never (right .established) (p .pending)
       go (ended right n z) = never (right .established) (p .pending)
 
   -- just after its first right response it is established
-  established-at : (i : ℕ) → FirstResponse c i e → slotOf (d .tables (suc i)) j ≡ held (establish e)
+  established-at : (i : ℕ) → FirstResponse running c i e → slotOf (d .tables (suc i)) j ≡ held (establish e)
   established-at i f =
       let l = f .within in
-      d .options i l .establishes j e (untouched-to i (omega arith) (f .first)) (p .pending) .1 (f .response)
+      d .options i l .establishes j e (untouched-to i (omega arith) (f .first)) (p .pending) .1
+      (subst (λ (r : ℕ). ResponseTo r c i e) (sym (running-at i (omega arith))) (f .response))
 
   -- and stays so while no option refreshes it
-  established-to : (i : ℕ) → FirstResponse c i e → (m : ℕ) → i < m → m ≤ doneOptions c → ((k : ℕ) → i < k → k < m → RefreshOf c k e → ⊥)
+  established-to : (i : ℕ) → FirstResponse running c i e → (m : ℕ) → i < m → m ≤ doneOptions c → ((k : ℕ) → i < k → k < m → RefreshOf c k e → ⊥)
       → slotOf (d .tables m) j ≡ held (establish e)
   established-to i f zero l h none = absurd (omega arith)
   established-to i f (suc m) l h none =
@@ -65,7 +78,7 @@ module _ (c : ServeCall) (before after : List ℕ) (d : Datagram c before after)
       go a (ended right n z) = absurd (none m a (omega arith) right)
 
   -- it is there still while no option ends it
-  kept-to : (i : ℕ) → FirstResponse c i e → (m : ℕ) → i < m → m ≤ doneOptions c
+  kept-to : (i : ℕ) → FirstResponse running c i e → (m : ℕ) → i < m → m ≤ doneOptions c
       → ((k : ℕ) → i < k → k < m → RefreshOf c k e → llqOption (c .datagram) k .lease ≢ 0) → StillHeld (d .tables m) j e
   kept-to i f zero l h none = absurd (omega arith)
   kept-to i f (suc m) l h none =
@@ -131,7 +144,7 @@ module _ (c : ServeCall) (before after : List ℕ) (d : Datagram c before after)
       next : i < m → StillHeld (d .tables m) j e → StillHeld (d .tables (suc m)) j e
       next a k = go a k (after-at m (k .entry) (omega arith) (k .here))
 
-  pending-after : PendingAfter c (d .tables (doneOptions c)) j e
+  pending-after : PendingAfter running c (d .tables (doneOptions c)) j e
   pending-after =
       record {
         untouched = λ none. untouched-to (doneOptions c) (omega arith) none;

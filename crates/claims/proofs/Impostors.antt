@@ -1,36 +1,42 @@
 -- Each wrong server breaks a claim, by a computed list of calls. Assumes nothing.
-use Prim.Native.Nat.{ℕ, zero, suc, _+_}
+use Prim.Native.Nat.{ℕ, zero, suc, _+_, _≤_, _<_}
 use native.Mathlib.Omega.{arith}
-use mathlib.Core.Path.{_≡_, refl, ap, _∙_, fun-ext}
+use mathlib.Core.Path.{_≡_, refl, sym, ap, _∙_, fun-ext}
 use mathlib.Core.Bool.{Bool, true, false, cond}
 use mathlib.Core.List.{List, [], _∷_, _++_}
 use mathlib.Core.Logic.{inl, inr, ⊎-elim}
 use lib.ListN.{drop}
-use lib.Dec.{lit<}
+use lib.Dec.{eqb, lit<}
 use Rattle.model.specs.Lists.{any, every, upTo, count}
 use Rattle.model.specs.Query.{question, llqOption, qdcount, matched}
 use Rattle.model.specs.Table.{Entry, Slot, free, held, Table, tableBytes, readTable}
-use Rattle.model.specs.Rules.{holdings}
+use Rattle.model.specs.Rules.{Holding, holdings}
 use Rattle.model.specs.Serve.{establish, serveOption}
 use Rattle.model.specs.Reply.{replyBytes, replyLength, mismatch}
 use Rattle.model.specs.Calls.{ServeCall, servedBy, serveRefusal, tableBefore, outcomeOf, tableAfter, outcomes, serve}
 use Rattle.model.proofs.Meaning.{read-stored}
+use Rattle.model.proofs.ListLaws.{never}
 use Rattle.model.proofs.HoldingLaws.{not-held}
-use Rattle.claims.specs.Events.{ServeInRange}
+use Rattle.model.specs.Meets.{Server}
+use Rattle.claims.specs.Events.{ticked, ServeInRange}
 use Rattle.claims.specs.Demand3.{Demand3, Agrees}
 use Rattle.claims.specs.Refusals.{Refusals, ReadingFault, weekTooLarge, secondTooLarge}
-use Rattle.claims.specs.Established.{EstablishedExactly}
+use Rattle.claims.specs.Established.{FirstResponse, PendingAfter, EstablishedExactly}
 use Rattle.claims.specs.Tick.{Ticking}
 use Rattle.claims.specs.Reply.{ReplyClaim}
+use Rattle.claims.specs.Repeats.{ToldLeases}
 use Rattle.claims.specs.CallBuilders.{makeAt, tickAt}
-use Rattle.claims.specs.Impostors.{right, serverOf, serveWith, tableWith, refusesAll, constantReply, saysFull, leavesTable, copiesFirst, inventsFreed, grantsUnstored, comparesSum, dropsPending, grantsIfFree, countsByPort, findsByNumber, Refuted}
+use Rattle.claims.specs.Impostors.{right, serverOf, serveWith, tableWith, refusesAll, constantReply, saysFull, leavesTable, copiesFirst, inventsFreed, grantsUnstored, comparesSum, dropsPending, grantsIfFree, countsByPort, findsByNumber, repeatsGranted, restampsOnRepeat, grantedOnly, anyUpToGranted, openBelow, sentLessAge, countsBack, Refuted}
 use Rattle.claims.proofs.Demand3.Permutations.{perm-alike}
 use Rattle.claims.proofs.Definitions.{all-definitions}
-use Rattle.claims.proofs.CallBuilders.{bytes-by-test, sound-by-test, asking, askingTwo, rosterOf, from, make-in-range, tick-in-range, from-in-range, tableBuffer, replyBuffer, freshBytes, along-datagrams}
+use Rattle.claims.proofs.CallBuilders.{areBytes, bytes-by-test, sound-by-test, asking, askingTwo, rosterOf, fromAt, from, make-in-range, tick-at-in-range, tick-in-range, from-at-in-range, from-in-range, tableBuffer, replyBuffer, freshBytes, along-datagrams}
 
--- the entries that agree with a tally are as many
+-- of the entries that agree with a tally as many pass a test
+as-many-by : (p : Holding → Bool) (b : List ℕ) (y : _) (g : Agrees b y) → count (holdings (readTable b)) p ≡ count (y .holdings) p
+as-many-by p b y g = ap (λ (t : Table). count (holdings t) p) (read-stored b (g .stored)) ∙ perm-alike (g .entries) p
+
 as-many : (b : List ℕ) (y : _) (g : Agrees b y) → count (holdings (readTable b)) any ≡ count (y .holdings) any
-as-many b y g = ap (λ (t : Table). count (holdings t) any) (read-stored b (g .stored)) ∙ perm-alike (g .entries) any
+as-many = as-many-by any
 
 -- a setup from address 9, port 1
 abbrev stranger : ServeCall
@@ -128,6 +134,15 @@ onlyEntry established lease stamp =
 abbrev onlyTable : ℕ → Entry → Table
 onlyTable running e = record { clock = record { place = 0; running = running }; roster = []; slots = held e ∷ [] }
 
+-- a pending entry is not itself established
+slotState : Slot → Bool
+slotState free = false
+slotState (held x) = x .established
+
+not-established : (e : Entry) → e .established ≡ false → held (establish e) ≡ held e → ⊥
+unfolding slotState
+not-established e b g = never {b = true} refl (ap slotState g ∙ b)
+
 -- it reports one entry freed of none
 invents-freed : Ticking inventsFreed → ⊥
 unfolding all-definitions
@@ -162,15 +177,113 @@ finds-by-number k =
     let g : held (establish e) ≡ held e =
     k c b (replyBuffer c) (from-in-range 6 1 (asking 7 3600) (lit< tt) (lit< tt) refl) (sound-by-test b refl refl) refl refl 0 e
     (record { here = refl; pending = refl; live = λ h. omega arith }) .untouched (λ i l a. omega (arith, a .own .address)) in
-    let t : true ≡ false = ap (λ (s : Slot). slotState s) g in
-    let z : _≡_ {A = ℕ} 0 1 = cc in
-    absurd (omega arith)
-  where
-    slotState : Slot → Bool
-    slotState free = false
-    slotState (held x) = x .established
+    absurd (not-established e refl g)
 
--- ---- ALL TWELVE
+-- ---- LEASES TOLD AND TAKEN WRONGLY
+
+-- setup and setup again 40 seconds later: 3,560 remain
+again : ServeCall
+again = fromAt 40 9 1 (asking 0 3600)
+
+again-in-range : ServeInRange again
+unfolding every again
+again-in-range = from-at-in-range 40 9 1 (asking 0 3600) (lit< tt) (lit< tt) (lit< tt) refl
+
+repeats-granted : Demand3 repeatsGranted → ⊥
+unfolding all-definitions again
+repeats-granted d =
+    let h = along-datagrams repeatsGranted 1 [] d refl refl (stranger ∷ again ∷ []) (stranger-in-range, (again-in-range, tt)) .1 .0 in
+    let z : _≡_ {A = ℕ} 3600 3560 = h .replied refl .options refl 0 (lit< tt) .lease in
+    absurd (omega arith)
+
+-- the entry's age is 40 and not 0
+restamps-on-repeat : Demand3 restampsOnRepeat → ⊥
+unfolding all-definitions again
+restamps-on-repeat d =
+    let h = along-datagrams restampsOnRepeat 1 [] d refl refl (stranger ∷ again ∷ []) (stranger-in-range, (again-in-range, tt)) .1 .0 in
+    let z : _≡_ {A = ℕ} 0 1 = as-many-by (λ h. eqb (h .age) 40) _ _ (h .agrees) in
+    absurd (omega arith)
+
+-- a response with 3,560 at age 45: 3,555 remain, and not 3,515
+sent-less-age : Demand3 sentLessAge → ⊥
+unfolding all-definitions
+sent-less-age d =
+    let c = fromAt 45 9 1 (asking 7 3560) in
+    let h = along-datagrams sentLessAge 1 [] d refl refl (stranger ∷ c ∷ [])
+    (stranger-in-range, (from-at-in-range 45 9 1 (asking 7 3560) (lit< tt) (lit< tt) (lit< tt) refl, tt)) .1 .0 in
+    let z : _≡_ {A = ℕ} 3515 3555 = h .replied refl .options refl 0 (lit< tt) .lease in
+    absurd (omega arith)
+
+-- a pending entry of lease 3,600 at age 40, and its sender's response with a lease
+abbrev pendingEntry : Entry
+pendingEntry = onlyEntry false 3600 0
+
+abbrev pendingBytes : List ℕ
+pendingBytes = tableBytes (onlyTable 40 pendingEntry)
+
+abbrev sending : ℕ → ServeCall
+sending lease = from 5 1 (asking 7 lease)
+
+-- what the claim says of it
+taking : (s : Server) → EstablishedExactly s → (lease : ℕ) → areBytes (asking 7 lease) → s .serve (sending lease) pendingBytes (replyBuffer (sending lease)) .number ≡ 0
+    → PendingAfter 40 (sending lease) (readTable (s .serve (sending lease) pendingBytes (replyBuffer (sending lease)) .table)) 0 pendingEntry
+unfolding all-definitions
+taking s k lease bytes answered =
+    k (sending lease) pendingBytes (replyBuffer (sending lease)) (from-in-range 5 1 (asking 7 lease) (lit< tt) (lit< tt) bytes)
+    (sound-by-test pendingBytes refl refl) refl answered 0 pendingEntry (record { here = refl; pending = refl; live = λ h. omega arith })
+
+-- with what remains, 3,560, it is right
+right-late : FirstResponse 40 (sending 3560) 0 pendingEntry
+unfolding all-definitions
+right-late =
+    record {
+      within = lit< tt;
+      response = record {
+        response = record { version = refl; opcode = refl; error = refl; number = λ h. omega arith };
+        own = record { address = refl; port = refl; name = refl; qtype = refl; qclass = refl };
+        number = refl;
+        least = omega arith;
+        most = omega arith;
+      };
+      first = λ i l r. omega arith;
+    }
+
+-- and these two do not establish it
+granted-only : EstablishedExactly grantedOnly → ⊥
+unfolding all-definitions
+granted-only k = not-established pendingEntry refl (sym (taking grantedOnly k 3560 refl refl .established 0 right-late (λ i l m r. omega arith)))
+
+open-below : EstablishedExactly openBelow → ⊥
+unfolding all-definitions
+open-below k = not-established pendingEntry refl (sym (taking openBelow k 3560 refl refl .established 0 right-late (λ i l m r. omega arith)))
+
+-- with 3,559, less than what remains, it is established
+any-up-to-granted : EstablishedExactly anyUpToGranted → ⊥
+unfolding all-definitions
+any-up-to-granted k =
+    not-established pendingEntry refl (taking anyUpToGranted k 3559 refl refl .untouched (λ i l r. least i l (r .least)))
+  where
+    least : (i : ℕ) → i < 1 → 3600 ≤ llqOption (asking 7 3559) i .lease + 40 → ⊥
+    least zero l h = omega (arith, h)
+    least (suc i) l h = omega arith
+
+-- a tick 10 seconds back: 3,560 was told, and 3,570 remain
+counts-back : ToldLeases countsBack → ⊥
+unfolding all-definitions
+counts-back k =
+    let e = onlyEntry false 3600 100 in
+    let b = tableBytes (record { clock = record { place = 100; running = 140 }; roster = []; slots = held e ∷ [] }) in
+    let a = countsBack .tick (tickAt 0 90) b in
+    let r = k .right b (ticked (tickAt 0 90) (a .number) (a .freed) (a .table) ∷ []) 0 e e (sound-by-test b refl refl)
+    (tick-at-in-range 90 (lit< tt), tt) (record { number = refl; freed = refl; table = refl }, tt) refl
+    (record { entry = e; here = refl; number = refl; address = refl; port = refl; name = refl; qtype = refl; qclass = refl; lease = refl; stamp = refl }, tt)
+    refl (record { address = 5; port = 1 }) (record { name = 1 ∷ 97 ∷ 0 ∷ []; qtype = 12; qclass = 1 })
+    (record { version = 1; opcode = 1; error = 0; number = 7; lease = 3560 })
+    (record { version = refl; opcode = refl; error = refl; number = λ h. omega arith })
+    (record { address = refl; port = refl; name = refl; qtype = refl; qclass = refl }) refl refl in
+    absurd (omega (arith, r .least))
+
+-- ---- ALL NINETEEN
 
 pub refuted : Refuted
 refuted =
@@ -187,6 +300,13 @@ refuted =
       grantsIfFree = grants-if-free;
       countsByPort = counts-by-port;
       findsByNumber = finds-by-number;
+      repeatsGranted = repeats-granted;
+      restampsOnRepeat = restamps-on-repeat;
+      grantedOnly = granted-only;
+      anyUpToGranted = any-up-to-granted;
+      openBelow = open-below;
+      sentLessAge = sent-less-age;
+      countsBack = counts-back;
     }
 
 -- ---- THE WRONG SERVERS' COMMON PARTS ARE THE MODEL'S

@@ -12,6 +12,7 @@ pub mod Samples
 pub mod Reply
 pub mod LiveAge
 pub mod Repeats
+pub mod ToldLeases
 pub mod NumbersInBytes
 pub mod GrantedNumbers
 pub mod Reading

@@ -1,17 +1,20 @@
 -- A setup sent again, of the model. Assumes nothing.
 use Prim.Native.Nat.{ℕ, _+_, _≤_, _<_}
 use native.Mathlib.Omega.{arith}
-use mathlib.Core.Path.{_≡_, refl, ap, _∙_}
+use mathlib.Core.Path.{_≡_, refl, ap, _∙_, subst}
 use mathlib.Core.Bool.{Bool, true, false, cond}
 use lib.ListN.{length}
+use borrow.Author.Tests.{ltb-true}
 use Rattle.model.specs.Lists.{bit, count, indexOf}
+use Rattle.model.specs.Clock.{ageAt}
 use Rattle.model.specs.Query.{Question, LlqOption}
 use Rattle.model.specs.Table.{Entry, Slot, free, held, Table}
 use Rattle.model.specs.Rules.{holding, holdings, asks, full}
-use Rattle.model.specs.Sound.{Sound}
-use Rattle.model.specs.Serve.{Sender, Served, serveOption, serveKind, serveSetup, onSetup, retryLater, granted, newEntry, withSlot, isFree, findEntry, slotOf}
+use Rattle.model.specs.Sound.{live, Sound}
+use Rattle.model.specs.Serve.{Sender, Served, serveOption, serveKind, serveSetup, onSetup, retryLater, lifeLeft, granted, newEntry, withSlot, isFree, findEntry, slotOf}
 use Rattle.model.proofs.ListLaws.{bit-le}
-use Rattle.model.proofs.HoldingLaws.{count-granted, found-at, found-none, free-slot, free-in, room-left}
+use Rattle.model.proofs.HoldingLaws.{held-obeys, count-granted, found-at, found-none, free-slot, free-in, room-left}
+use Rattle.model.proofs.ClockLaws.{fresh-age}
 use Rattle.model.proofs.Facts.{one-asks}
 use Rattle.claims.specs.Changes.{Setup, Own}
 use Rattle.claims.specs.Repeats.{Repeated, SetupRepeats, SetupTwice}
@@ -28,16 +31,24 @@ found-held : (s : Sender) (q : Question) (t : Table) (j : ℕ) (e : Entry) → c
 found-held s q t j e one h own =
     ap (slotOf t) (found-at (asks (s .address) (s .port) q) t j e one h (own-asks s q (t .clock .running) e own)) ∙ h
 
--- where it is found, its challenge is repeated
+-- where it is found, its challenge is repeated with the life that remains
 repeats : (s : Sender) (r : ℕ) (q : Question) (o : LlqOption) (t : Table) (e : Entry) → Setup o → found s q t ≡ held e
-    → Repeated t (e .number) (e .lease) (serveOption s r q o t)
+    → Repeated t (e .number) (lifeLeft (e .lease) (ageAt (t .clock .running) (e .stamp))) (serveOption s r q o t)
 unfolding serveKind serveSetup onSetup
 repeats s r q o t e so h =
     let k = setup-kind o so in
     rw (k, h) (record { table = refl; opcode = so .opcode; error = refl; number = refl; lease = refl })
 
 pub setup-repeats : SetupRepeats
-setup-repeats s r q o t j e x so h own = repeats s r q o t e so (found-held s q t j e (one-asks t x (s .address) (s .port) q (asks (s .address) (s .port) q) (λ h p. p)) h own)
+setup-repeats s r q o t j e x so h own =
+    let left = lifeLeft (e .lease) (ageAt (t .clock .running) (e .stamp)) in
+    let young = ltb-true (ageAt (t .clock .running) (e .stamp)) (e .lease) (held-obeys (t .clock .running) (t .slots) j e live h (x .ages)) in (
+      left,
+      (
+        omega (arith, young),
+        repeats s r q o t e so (found-held s q t j e (one-asks t x (s .address) (s .port) q (asks (s .address) (s .port) q) (λ h p. p)) h own),
+      ),
+    )
 
 -- what a grant adds is found
 granted-found : (s : Sender) (r : ℕ) (q : Question) (o : LlqOption) (t : Table) → Sound t → found s q t ≡ free
@@ -65,7 +76,11 @@ twice s r r2 q o o2 t x so2 h = go (found s q t) refl h
         → let y = cond {A = Served} v (record { table = t; outcome = retryLater o }) (granted s r q o t) in
         Repeated (y .table) (y .outcome .number) (y .outcome .lease) (serveOption s r2 q o2 (y .table))
     on p true f h = absurd (omega arith)
-    on p false f h = repeats s r2 q o2 (granted s r q o t .table) (newEntry s r q o t) so2 (granted-found s r q o t x p f)
+    on p false f h =
+        let told : lifeLeft (newEntry s r q o t .lease) (ageAt (t .clock .running) (t .clock .running)) ≡ newEntry s r q o t .lease =
+        omega (arith, fresh-age (t .clock .running)) in
+        subst (λ (left : ℕ). Repeated (granted s r q o t .table) (newEntry s r q o t .number) left (serveOption s r2 q o2 (granted s r q o t .table))) told
+        (repeats s r2 q o2 (granted s r q o t .table) (newEntry s r q o t) so2 (granted-found s r q o t x p f))
 
     go : (z : Slot) → found s q t ≡ z → onSetup s r q o t z .outcome .error ≡ 0
         → let y = onSetup s r q o t z in

@@ -1,7 +1,7 @@
 -- The samples and the pins hold of the model, by computing. Assumes nothing.
 use mathlib.Core.Path.{refl}
 use Rattle.model.specs.Meets.{model}
-use Rattle.claims.specs.Samples.{Samples}
+use Rattle.claims.specs.Samples.{Samples, SpanSamples}
 use Rattle.claims.specs.SoundSamples.{SoundSamples}
 use Rattle.claims.specs.Pins.{Pinned}
 use Rattle.claims.proofs.Definitions.{model-definitions}
@@ -9,6 +9,11 @@ use Rattle.claims.proofs.Definitions.{model-definitions}
 pub samples-hold : Samples
 unfolding model-definitions
 samples-hold = (refl, (refl, (refl, (refl, (refl, (refl, (refl, (refl, (refl, (refl, (refl, (refl, (refl, (refl, tt))))))))))))))
+
+pub span-samples-hold : SpanSamples
+unfolding model-definitions
+span-samples-hold =
+    ((λ e. (refl, refl)), ((λ e. (refl, refl)), ((λ e. (refl, refl)), ((λ e. (refl, refl)), ((λ e. (refl, refl)), ((λ e. (refl, refl)), ((λ e. (refl, refl)), ((λ e. (refl, refl)), ((λ e. (refl, refl)), ((λ e. (refl, refl)), ((λ e. (refl, refl)), ((λ e. (refl, refl)), ((λ e. (refl, refl)), tt)))))))))))))
 
 pub sound-samples-hold : SoundSamples
 unfolding model-definitions
@@ -21,4 +26,4 @@ sound-samples-hold =
 
 pub pinned : Pinned model
 unfolding model-definitions
-pinned = record { size = refl; made = refl; listed = refl; challenged = refl; acknowledged = refl; renewed = refl; written = refl; readBack = refl }
+pinned = record { size = refl; made = refl; listed = refl; challenged = refl; acknowledged = refl; renewed = refl; repeated = refl; answeredLate = refl; tooShort = refl; written = refl; readBack = refl }

@@ -1,13 +1,13 @@
 -- Claim 2, what a datagram may change, and of claim 3 what each option establishes. Assumes nothing.
-use Prim.Native.Nat.{ℕ, zero, suc, _+_, _-_, _*_, _%_, _^_, _≤_, _<_}
+use Prim.Native.Nat.{ℕ, suc, _+_, _-_, _*_, _%_, _^_, _≤_, _<_}
 use mathlib.Core.Path.{_≡_}
-use mathlib.Core.Bool.{Bool, true, false, cond}
-use mathlib.Core.List.{List, [], _∷_}
+use mathlib.Core.Bool.{true, false, cond}
+use mathlib.Core.List.{List}
 use mathlib.Core.Logic.{_⊎_, _≢_}
-use lib.ListN.{length, getD, set, drop}
-use Rattle.model.specs.Clock.{Clock, advance}
+use lib.ListN.{length, drop}
+use Rattle.model.specs.Clock.{advance}
 use Rattle.model.specs.Query.{Question, LlqOption, question, llqOption, qdcount, matched}
-use Rattle.model.specs.Table.{Line, Entry, Slot, free, held, Table, readTable, tableBytes}
+use Rattle.model.specs.Table.{Entry, free, held, Table, readTable, tableBytes}
 use Rattle.model.specs.Sound.{SoundBytes}
 use Rattle.model.specs.Serve.{Sender, withSlot, slotOf}
 use Rattle.model.specs.Calls.{ServeCall}
@@ -42,12 +42,18 @@ pub record Own (s : Sender) (q : Question) (e : Entry) : Type 0 where
   pub qtype : e .qtype ≡ q .qtype
   pub qclass : e .qclass ≡ q .qclass
 
--- a well-formed response with the entry's number, granted lease and question from its address and port
-pub record RightResponse (s : Sender) (q : Question) (o : LlqOption) (e : Entry) : Type 0 where
+-- the entry's age: the running count less its stamp, modulo 2^32
+abbrev pub ageOf : ℕ → Entry → ℕ
+ageOf running e = (running + 2 ^ 32 - e .stamp) % 2 ^ 32
+
+-- a well-formed response with the entry's number and question from its address and port, and a lease from the life that remains at this running
+-- count to the granted one
+pub record RightResponse (running : ℕ) (s : Sender) (q : Question) (o : LlqOption) (e : Entry) : Type 0 where
   pub response : Response o
   pub own : Own s q e
   pub number : e .number ≡ o .number
-  pub lease : e .lease ≡ o .lease
+  pub least : e .lease ≤ o .lease + ageOf running e
+  pub most : o .lease ≤ e .lease
 
 -- a well-formed refresh of an established entry with its number and question from its address and port
 pub record RightRefresh (s : Sender) (q : Question) (o : LlqOption) (e : Entry) : Type 0 where
@@ -106,7 +112,7 @@ pub data Change (s : Sender) (q : Question) (o : LlqOption) (t u : Table) : Type
   grant : (j : ℕ) (e : Entry) → j < length (t .slots) → slotOf t j ≡ free → ((k : ℕ) → k < j → slotOf t k ≢ free) → Granted s q o t e → u ≡ withSlot t j (held e)
       → Change s q o t u
   -- pending to established, the state alone
-  confirm : (j : ℕ) (e : Entry) → j < length (t .slots) → slotOf t j ≡ held e → e .established ≡ false → RightResponse s q o e
+  confirm : (j : ℕ) (e : Entry) → j < length (t .slots) → slotOf t j ≡ held e → e .established ≡ false → RightResponse (t .clock .running) s q o e
       → u ≡ withSlot t j (held (establishedEntry e)) → Change s q o t u
   -- established to a new lease and stamp
   renew : (j : ℕ) (e : Entry) → j < length (t .slots) → slotOf t j ≡ held e → RightRefresh s q o e → o .lease ≢ 0 → u ≡ withSlot t j (held (renewedEntry t o e))
@@ -118,15 +124,15 @@ pub data Change (s : Sender) (q : Question) (o : LlqOption) (t u : Table) : Type
 pub record OptionDone (s : Sender) (q : Question) (o : LlqOption) (t u : Table) : Type 0 where
   pub change : Change s q o t u
   -- an entry pending just before is established just after exactly if the option is a right response to it
-  pub establishes : (j : ℕ) (e : Entry) → slotOf t j ≡ held e → e .established ≡ false → Exactly (slotOf u j ≡ held (establishedEntry e)) (RightResponse s q o e)
+  pub establishes : (j : ℕ) (e : Entry) → slotOf t j ≡ held e → e .established ≡ false → Exactly (slotOf u j ≡ held (establishedEntry e)) (RightResponse (t .clock .running) s q o e)
   -- nothing is established that was not pending or established just before; what is granted is pending
-  pub onlyHeld : (j : ℕ) (x : Entry) → slotOf u j ≡ held x → x .established ≡ true → (e : Entry) × ((slotOf t j ≡ held e) × ((e .established ≡ true) ⊎ RightResponse s q o e))
+  pub onlyHeld : (j : ℕ) (x : Entry) → slotOf u j ≡ held x → x .established ≡ true → (e : Entry) × ((slotOf t j ≡ held e) × ((e .established ≡ true) ⊎ RightResponse (t .clock .running) s q o e))
 
 -- THE CLOCK MOVED AND RUN-OUT ENTRIES FREED
 
--- the entry's age, the running count less its stamp modulo 2^32, is at least its lease
+-- the entry's age is at least its lease
 abbrev pub RunOut : ℕ → Entry → Type 0
-RunOut running e = e .lease ≤ (running + 2 ^ 32 - e .stamp) % 2 ^ 32
+RunOut running e = e .lease ≤ ageOf running e
 
 pub record Moved (place : ℕ) (t u : Table) : Type 0 where
   pub clock : u .clock ≡ advance (t .clock) place

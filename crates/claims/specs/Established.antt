@@ -1,13 +1,13 @@
 -- Claim 3: a pending query is established exactly when it should be, from the table before a datagram to the table after. Assumes nothing.
-use Prim.Native.Nat.{ℕ, zero, suc, _+_, _*_, _≤_, _<_}
+use Prim.Native.Nat.{ℕ, _+_, _*_, _<_}
 use mathlib.Core.Path.{_≡_}
-use mathlib.Core.Bool.{Bool, true, false}
-use mathlib.Core.List.{List, [], _∷_}
+use mathlib.Core.Bool.{true, false}
+use mathlib.Core.List.{List}
 use mathlib.Core.Logic.{_≢_}
 use lib.ListN.{length}
 use Rattle.model.specs.Clock.{advance}
 use Rattle.model.specs.Query.{question, llqOption}
-use Rattle.model.specs.Table.{Entry, Slot, free, held, Table, readTable}
+use Rattle.model.specs.Table.{Entry, held, Table, readTable}
 use Rattle.model.specs.Sound.{SoundBytes}
 use Rattle.model.specs.Serve.{slotOf}
 use Rattle.model.specs.Calls.{ServeCall}
@@ -15,19 +15,23 @@ use Rattle.model.specs.Meets.{Server}
 use Rattle.claims.specs.Events.{ServeInRange}
 use Rattle.claims.specs.Changes.{RunOut, establishedEntry, RightResponse, RightRefresh, doneOptions}
 
--- option i of the datagram is a right response to the entry
-abbrev pub ResponseTo : ServeCall → ℕ → Entry → Type 0
-ResponseTo c i e = RightResponse (c .sender) (question (c .datagram) i) (llqOption (c .datagram) i) e
+-- the datagram's running count: that of the table before, moved on by its reading
+abbrev pub movedCount : ServeCall → Table → ℕ
+movedCount c t = advance (t .clock) (c .week * 604800 + c .second) .running
+
+-- option i of the datagram is a right response to the entry at this running count
+abbrev pub ResponseTo : ℕ → ServeCall → ℕ → Entry → Type 0
+ResponseTo running c i e = RightResponse running (c .sender) (question (c .datagram) i) (llqOption (c .datagram) i) e
 
 -- option i is a right refresh of the entry, once established
 abbrev pub RefreshOf : ServeCall → ℕ → Entry → Type 0
 RefreshOf c i e = RightRefresh (c .sender) (question (c .datagram) i) (llqOption (c .datagram) i) (establishedEntry e)
 
 -- option i is the first of the datagram that is a right response to the entry
-pub record FirstResponse (c : ServeCall) (i : ℕ) (e : Entry) : Type 0 where
+pub record FirstResponse (running : ℕ) (c : ServeCall) (i : ℕ) (e : Entry) : Type 0 where
   pub within : i < doneOptions c
-  pub response : ResponseTo c i e
-  pub first : (k : ℕ) → k < i → ResponseTo c k e → ⊥
+  pub response : ResponseTo running c i e
+  pub first : (k : ℕ) → k < i → ResponseTo running c k e → ⊥
 
 -- slot j has the entry, established, its lease and stamp aside
 pub record StillHeld (u : Table) (j : ℕ) (e : Entry) : Type 0 where
@@ -45,18 +49,18 @@ pub record StillHeld (u : Table) (j : ℕ) (e : Entry) : Type 0 where
 pub record Pending (c : ServeCall) (t : Table) (j : ℕ) (e : Entry) : Type 0 where
   pub here : slotOf t j ≡ held e
   pub pending : e .established ≡ false
-  pub live : RunOut (advance (t .clock) (c .week * 604800 + c .second) .running) e → ⊥
+  pub live : RunOut (movedCount c t) e → ⊥
 
 -- what holds of it in the table after
-pub record PendingAfter (c : ServeCall) (u : Table) (j : ℕ) (e : Entry) : Type 0 where
+pub record PendingAfter (running : ℕ) (c : ServeCall) (u : Table) (j : ℕ) (e : Entry) : Type 0 where
   -- where no option is a right response it stays as it was
-  pub untouched : ((i : ℕ) → i < doneOptions c → ResponseTo c i e → ⊥) → slotOf u j ≡ held e
+  pub untouched : ((i : ℕ) → i < doneOptions c → ResponseTo running c i e → ⊥) → slotOf u j ≡ held e
   -- where option i is the first that is, and none behind it refreshes the entry, it is established, and else as it was
-  pub established : (i : ℕ) → FirstResponse c i e → ((k : ℕ) → i < k → k < doneOptions c → RefreshOf c k e → ⊥) → slotOf u j ≡ held (establishedEntry e)
+  pub established : (i : ℕ) → FirstResponse running c i e → ((k : ℕ) → i < k → k < doneOptions c → RefreshOf c k e → ⊥) → slotOf u j ≡ held (establishedEntry e)
   -- it is established still where some behind it refresh the entry, unless one of them ends it
-  pub stays : (i : ℕ) → FirstResponse c i e → ((k : ℕ) → i < k → k < doneOptions c → RefreshOf c k e → llqOption (c .datagram) k .lease ≢ 0) → StillHeld u j e
+  pub stays : (i : ℕ) → FirstResponse running c i e → ((k : ℕ) → i < k → k < doneOptions c → RefreshOf c k e → llqOption (c .datagram) k .lease ≢ 0) → StillHeld u j e
 
 abbrev pub EstablishedExactly : Server → Type 0
 EstablishedExactly s =
     (c : ServeCall) (b lent : List ℕ) → ServeInRange c → SoundBytes b → c .room ≡ length lent → s .serve c b lent .number ≡ 0
-    → (j : ℕ) (e : Entry) → Pending c (readTable b) j e → PendingAfter c (readTable (s .serve c b lent .table)) j e
+    → (j : ℕ) (e : Entry) → Pending c (readTable b) j e → PendingAfter (movedCount c (readTable b)) c (readTable (s .serve c b lent .table)) j e

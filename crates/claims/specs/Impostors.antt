@@ -1,16 +1,16 @@
--- Wrong servers: document 01's impostors and the old box's five faults, each the model with one part wrong, and the claim that each breaks.
--- Assumes nothing.
+-- Wrong servers: document 01's impostors, the old box's five faults, and seven that tell or take a lease wrongly, each the model with one part wrong,
+-- and the claim that each breaks. Assumes nothing.
 use Prim.Native.Nat.{ℕ, zero, suc, _+_, _-_, _%_, _^_}
 use mathlib.Core.Bool.{Bool, not, cond, _&&_, _||_}
 use mathlib.Core.List.{List, [], _∷_, _++_, map}
 use lib.ListN.{length, drop}
-use lib.Dec.{eqb, leb}
+use lib.Dec.{eqb, leb, ltb}
 use Rattle.model.specs.Lists.{count, any, upTo}
 use Rattle.model.specs.Clock.{advance, placeOf, ageAt}
 use Rattle.model.specs.Query.{Question, LlqOption, question, llqOption, qdcount, matched}
 use Rattle.model.specs.Table.{Entry, Slot, free, held, Table, tableBytes, readTable}
-use Rattle.model.specs.Rules.{holdings, asks, numbered, limitOf, shareOf, reserve}
-use Rattle.model.specs.Serve.{Sender, Outcome, Served, Kind, badVersion, badFormat, setup, response, refresh, isFree, findEntry, slotOf, movedOn, kindOfOption, serveOption, serveKind, onSetup, onResponse, rightLease, retryLater, granted}
+use Rattle.model.specs.Rules.{Holding, holdings, asks, numbered, limitOf, shareOf, reserve}
+use Rattle.model.specs.Serve.{Sender, Outcome, Served, Kind, badVersion, badFormat, setup, response, refresh, isFree, findEntry, slotOf, withClock, withSlot, freeRunOut, movedOn, kindOfOption, serveOption, serveKind, onSetup, onResponse, lifeLeft, rightLease, answers, challenge, retryLater, granted, establish}
 use Rattle.model.specs.Reply.{replyBytes, replyLength, mismatch}
 use Rattle.model.specs.Calls.{MakeCall, TickCall, ServeCall, Made, Ticked, Answered, madeBy, tickedBy, servedBy, tick, serve, tickRefusal, serveRefusal}
 use Rattle.model.specs.Meets.{Server, model}
@@ -20,6 +20,7 @@ use Rattle.claims.specs.Established.{EstablishedExactly}
 use Rattle.claims.specs.Tick.{Ticking}
 use Rattle.claims.specs.Demand3.{Demand3}
 use Rattle.claims.specs.Reply.{ReplyClaim}
+use Rattle.claims.specs.Repeats.{ToldLeases}
 
 -- A SERVER WITH ONE CALL OF ITS OWN, the others those of the server given: a further call is one line in each
 abbrev pub withMake : Server → (MakeCall → List ℕ → Made) → Server
@@ -184,12 +185,92 @@ countsByPort =
     leb (limitOf (t .roster) (s .address)) h
     || (leb (shareOf (t .roster) (s .address)) h && leb (count (t .slots) isFree) (reserve (t .roster) (count (holdings t)))))
 
+-- a response, with this test of the holding that it names, and this of the slot that it finds
+abbrev pub withResponse : (Sender → Question → LlqOption → Holding → Bool) → (LlqOption → Table → ℕ → Slot → Served) → Server
+withResponse f g =
+    withOption
+    (λ s r q o t. byKind (serveKind setup) (λ s r q o t. let i = findEntry (f s q o) t in g o t i (slotOf t i)) (kindOfOption o) s r q o t)
+
 -- finds entries by number alone
 abbrev pub findsByNumber : Server
-findsByNumber =
+findsByNumber = withResponse (λ s q o h. numbered (o .number) h && rightLease o h) onResponse
+
+-- LEASES TOLD AND TAKEN WRONGLY
+
+-- a setup, with this where it finds an entry e, in slot i
+abbrev pub onFound : (LlqOption → Table → ℕ → Entry → Served) → Sender → ℕ → Question → LlqOption → Table → ℕ → Slot → Served
+onFound f s r q o t i (held e) = f o t i e
+onFound f s r q o t i free = onSetup s r q o t free
+
+abbrev pub withFound : (LlqOption → Table → ℕ → Entry → Served) → Server
+withFound f =
     withOption
     (λ s r q o t.
-    byKind (serveKind setup) (λ s r q o t. let i = findEntry (λ h. numbered (o .number) h && rightLease o h) t in onResponse o t i (slotOf t i)) (kindOfOption o) s r q o t)
+    byKind (λ s r q o t. let i = findEntry (asks (s .address) (s .port) q) t in onFound f s r q o t i (slotOf t i)) (serveKind response) (kindOfOption o) s r q o t)
+
+-- tells the granted lease of an entry that is there
+abbrev pub repeatsGranted : Server
+repeatsGranted = withFound (λ o t i e. record { table = t; outcome = challenge o e })
+
+-- an entry stamped now
+abbrev pub restamped : ℕ → Entry → Entry
+restamped running e =
+    record {
+      established = e .established;
+      address = e .address;
+      port = e .port;
+      number = e .number;
+      lease = e .lease;
+      stamp = running;
+      qtype = e .qtype;
+      qclass = e .qclass;
+      name = e .name;
+    }
+
+-- moves the stamp of an entry whose setup is repeated
+abbrev pub restampsOnRepeat : Server
+restampsOnRepeat =
+    withFound
+    (λ o t i e.
+    record {
+      table = withSlot t i (held (restamped (t .clock .running) e));
+      outcome = record { opcode = o .opcode; error = 0; number = e .number; lease = lifeLeft (e .lease) (ageAt (t .clock .running) (e .stamp)) };
+    })
+
+-- a response that names an entry of its sender and question, with this test of the lease sent, the granted one and the age
+abbrev pub withSpan : (ℕ → ℕ → ℕ → Bool) → Server
+withSpan f = withResponse (λ s q o h. numbered (o .number) h && asks (s .address) (s .port) q h && f (o .lease) (h .lease) (h .age)) onResponse
+
+-- takes the granted lease alone
+abbrev pub grantedOnly : Server
+grantedOnly = withSpan (λ sent granted age. eqb sent granted)
+
+-- takes any lease up to the granted one
+abbrev pub anyUpToGranted : Server
+anyUpToGranted = withSpan (λ sent granted age. leb sent granted)
+
+-- takes a lease that is more than what remains
+abbrev pub openBelow : Server
+openBelow = withSpan (λ sent granted age. ltb (lifeLeft granted age) sent && leb sent granted)
+
+-- acknowledges with the lease sent less the age
+abbrev pub onSent : LlqOption → Table → ℕ → Slot → Served
+onSent o t i (held e) =
+    record {
+      table = withSlot t i (held (establish e));
+      outcome = record { opcode = o .opcode; error = 0; number = e .number; lease = lifeLeft (o .lease) (ageAt (t .clock .running) (e .stamp)) };
+    }
+onSent o t i free = onResponse o t i free
+
+abbrev pub sentLessAge : Server
+sentLessAge = withResponse answers onSent
+
+-- takes a step back from the running count, so that a life grows again after it was told
+abbrev pub countsBack : Server
+countsBack =
+    withMove
+    (λ t place.
+    freeRunOut (withClock t (record { place = place; running = (t .clock .running + 2 ^ 32 + place - t .clock .place) % 2 ^ 32 })))
 
 -- EACH BREAKS A CLAIM
 pub record Refuted : Type 0 where
@@ -205,3 +286,10 @@ pub record Refuted : Type 0 where
   pub grantsIfFree : Demand3 grantsIfFree → ⊥
   pub countsByPort : Demand3 countsByPort → ⊥
   pub findsByNumber : EstablishedExactly findsByNumber → ⊥
+  pub repeatsGranted : Demand3 repeatsGranted → ⊥
+  pub restampsOnRepeat : Demand3 restampsOnRepeat → ⊥
+  pub grantedOnly : EstablishedExactly grantedOnly → ⊥
+  pub anyUpToGranted : EstablishedExactly anyUpToGranted → ⊥
+  pub openBelow : EstablishedExactly openBelow → ⊥
+  pub sentLessAge : Demand3 sentLessAge → ⊥
+  pub countsBack : ToldLeases countsBack → ⊥

@@ -1,11 +1,11 @@
--- W11, and the table's bytes after its making, its setup, its response and a refresh without RD, and those of a table whose numbers have no byte
--- in common, written out from document 01's layout. Assumes nothing.
-use Prim.Native.Nat.{ℕ, _+_, _*_, _^_}
+-- W11, and the table's bytes after its making, its setup, its setup again, its response and a refresh without RD, and those of a table whose numbers
+-- have no byte in common, written out from document 01's layout. Assumes nothing.
+use Prim.Native.Nat.{ℕ, _+_}
 use mathlib.Core.Path.{_≡_}
 use mathlib.Core.Bool.{true, false}
 use mathlib.Core.List.{List, [], _∷_, _++_}
 use lib.ListN.{length, replicate}
-use Rattle.model.specs.Table.{Entry, Slot, free, held, Table, tableBytes, readTable}
+use Rattle.model.specs.Table.{free, held, Table, tableBytes, readTable}
 use Rattle.model.specs.Serve.{Sender}
 use Rattle.model.specs.Calls.{MakeCall, ServeCall}
 use Rattle.model.specs.Meets.{Server}
@@ -22,29 +22,41 @@ setupQuery =
     ∷ 0 ∷ 0 ∷ 0x29 ∷ 0x05 ∷ 0xC0 ∷ 0 ∷ 0 ∷ 0 ∷ 0 ∷ 0 ∷ 0x16
     ∷ 0 ∷ 1 ∷ 0 ∷ 0x12 ∷ 0 ∷ 1 ∷ 0 ∷ 1 ∷ 0 ∷ 0 ∷ 0 ∷ 0 ∷ 0 ∷ 0 ∷ 0 ∷ 0 ∷ 0 ∷ 0 ∷ 0 ∷ 0 ∷ 0x0E ∷ 0x10 ∷ []
 
--- W11's reply: the same but 0x85 for the third byte, and number 7
-abbrev pub challengeReply : List ℕ
-challengeReply =
+-- a challenge, by its lease's last two bytes: the query's bytes but 0x85 for the third, and number 7
+abbrev pub challengeOf : ℕ → ℕ → List ℕ
+challengeOf high low =
     0x12 ∷ 0x34 ∷ 0x85 ∷ 0 ∷ 0 ∷ 1 ∷ 0 ∷ 0 ∷ 0 ∷ 0 ∷ 0 ∷ 1
     ∷ 1 ∷ 0x61 ∷ 0 ∷ 0 ∷ 0x0C ∷ 0 ∷ 1
     ∷ 0 ∷ 0 ∷ 0x29 ∷ 0x05 ∷ 0xC0 ∷ 0 ∷ 0 ∷ 0 ∷ 0 ∷ 0 ∷ 0x16
-    ∷ 0 ∷ 1 ∷ 0 ∷ 0x12 ∷ 0 ∷ 1 ∷ 0 ∷ 1 ∷ 0 ∷ 0 ∷ 0 ∷ 0 ∷ 0 ∷ 0 ∷ 0 ∷ 0 ∷ 0 ∷ 7 ∷ 0 ∷ 0 ∷ 0x0E ∷ 0x10 ∷ []
+    ∷ 0 ∷ 1 ∷ 0 ∷ 0x12 ∷ 0 ∷ 1 ∷ 0 ∷ 1 ∷ 0 ∷ 0 ∷ 0 ∷ 0 ∷ 0 ∷ 0 ∷ 0 ∷ 0 ∷ 0 ∷ 7 ∷ 0 ∷ 0 ∷ high ∷ low ∷ []
 
--- its response: the number and the granted lease repeated
-abbrev pub responseQuery : List ℕ
-responseQuery =
+-- W11's reply: 3,600 seconds granted
+abbrev pub challengeReply : List ℕ
+challengeReply = challengeOf 0x0E 0x10
+
+-- a response: the number and a lease repeated, by its last two bytes
+abbrev pub responseOf : ℕ → ℕ → List ℕ
+responseOf high low =
     0x12 ∷ 0x35 ∷ 0x01 ∷ 0 ∷ 0 ∷ 1 ∷ 0 ∷ 0 ∷ 0 ∷ 0 ∷ 0 ∷ 1
     ∷ 1 ∷ 0x41 ∷ 0 ∷ 0 ∷ 0x0C ∷ 0 ∷ 1
     ∷ 0 ∷ 0 ∷ 0x29 ∷ 0x05 ∷ 0xC0 ∷ 0 ∷ 0 ∷ 0 ∷ 0 ∷ 0 ∷ 0x16
-    ∷ 0 ∷ 1 ∷ 0 ∷ 0x12 ∷ 0 ∷ 1 ∷ 0 ∷ 1 ∷ 0 ∷ 0 ∷ 0 ∷ 0 ∷ 0 ∷ 0 ∷ 0 ∷ 0 ∷ 0 ∷ 7 ∷ 0 ∷ 0 ∷ 0x0E ∷ 0x10 ∷ []
+    ∷ 0 ∷ 1 ∷ 0 ∷ 0x12 ∷ 0 ∷ 1 ∷ 0 ∷ 1 ∷ 0 ∷ 0 ∷ 0 ∷ 0 ∷ 0 ∷ 0 ∷ 0 ∷ 0 ∷ 0 ∷ 7 ∷ 0 ∷ 0 ∷ high ∷ low ∷ []
 
--- its acknowledgment, three seconds after the setup: lease less age is 3,597
-abbrev pub acknowledgmentReply : List ℕ
-acknowledgmentReply =
+-- its acknowledgment, by the last two bytes of the life that remains
+abbrev pub acknowledgmentOf : ℕ → ℕ → List ℕ
+acknowledgmentOf high low =
     0x12 ∷ 0x35 ∷ 0x85 ∷ 0 ∷ 0 ∷ 1 ∷ 0 ∷ 0 ∷ 0 ∷ 0 ∷ 0 ∷ 1
     ∷ 1 ∷ 0x41 ∷ 0 ∷ 0 ∷ 0x0C ∷ 0 ∷ 1
     ∷ 0 ∷ 0 ∷ 0x29 ∷ 0x05 ∷ 0xC0 ∷ 0 ∷ 0 ∷ 0 ∷ 0 ∷ 0 ∷ 0x16
-    ∷ 0 ∷ 1 ∷ 0 ∷ 0x12 ∷ 0 ∷ 1 ∷ 0 ∷ 1 ∷ 0 ∷ 0 ∷ 0 ∷ 0 ∷ 0 ∷ 0 ∷ 0 ∷ 0 ∷ 0 ∷ 7 ∷ 0 ∷ 0 ∷ 0x0E ∷ 0x0D ∷ []
+    ∷ 0 ∷ 1 ∷ 0 ∷ 0x12 ∷ 0 ∷ 1 ∷ 0 ∷ 1 ∷ 0 ∷ 0 ∷ 0 ∷ 0 ∷ 0 ∷ 0 ∷ 0 ∷ 0 ∷ 0 ∷ 7 ∷ 0 ∷ 0 ∷ high ∷ low ∷ []
+
+-- its refusal: error 4, number 0, lease 0
+abbrev pub noSuchReply : List ℕ
+noSuchReply =
+    0x12 ∷ 0x35 ∷ 0x85 ∷ 0 ∷ 0 ∷ 1 ∷ 0 ∷ 0 ∷ 0 ∷ 0 ∷ 0 ∷ 1
+    ∷ 1 ∷ 0x41 ∷ 0 ∷ 0 ∷ 0x0C ∷ 0 ∷ 1
+    ∷ 0 ∷ 0 ∷ 0x29 ∷ 0x05 ∷ 0xC0 ∷ 0 ∷ 0 ∷ 0 ∷ 0 ∷ 0 ∷ 0x16
+    ∷ 0 ∷ 1 ∷ 0 ∷ 0x12 ∷ 0 ∷ 1 ∷ 0 ∷ 1 ∷ 0 ∷ 4 ∷ 0 ∷ 0 ∷ 0 ∷ 0 ∷ 0 ∷ 0 ∷ 0 ∷ 0 ∷ 0 ∷ 0 ∷ 0 ∷ 0 ∷ []
 
 -- a refresh with RD 0, asking 7,200 seconds
 abbrev pub refreshQuery : List ℕ
@@ -62,7 +74,8 @@ renewalReply =
     ∷ 0 ∷ 0 ∷ 0x29 ∷ 0x05 ∷ 0xC0 ∷ 0 ∷ 0 ∷ 0 ∷ 0 ∷ 0 ∷ 0x16
     ∷ 0 ∷ 1 ∷ 0 ∷ 0x12 ∷ 0 ∷ 1 ∷ 0 ∷ 2 ∷ 0 ∷ 0 ∷ 0 ∷ 0 ∷ 0 ∷ 0 ∷ 0 ∷ 0 ∷ 0 ∷ 7 ∷ 0 ∷ 0 ∷ 0x1C ∷ 0x20 ∷ []
 
--- CALLS: made at week 1, second 2; asked at second 7; answered at second 10; refreshed at second 20; from 192.0.2.1, mapped, port 5353; host number 7
+-- CALLS: made at week 1, second 2; asked at second 7; answered at second 10; refreshed at second 20; or asked again at second 47 and answered late,
+-- at second 52; from 192.0.2.1, mapped, port 5353; host number 7
 abbrev pub sender : Sender
 sender = record { address = 0xFFFF_C000_0201; port = 5353 }
 
@@ -73,10 +86,16 @@ abbrev pub setupCall : ServeCall
 setupCall = datagramAt 1 7 sender 7 setupQuery 60
 
 abbrev pub responseCall : ServeCall
-responseCall = datagramAt 1 10 sender 9 responseQuery 60
+responseCall = datagramAt 1 10 sender 9 (responseOf 0x0E 0x10) 60
 
 abbrev pub refreshCall : ServeCall
 refreshCall = datagramAt 1 20 sender 9 refreshQuery 60
+
+abbrev pub againCall : ServeCall
+againCall = datagramAt 1 47 sender 9 setupQuery 60
+
+abbrev pub lateCall : ℕ → ℕ → ServeCall
+lateCall high low = datagramAt 1 52 sender 9 (responseOf high low) 60
 
 -- THE TABLE of 4 slots, 1,593 bytes
 -- clock: kind 1, place 4, running count 4
@@ -109,18 +128,29 @@ entryPin kind high low stamp =
     ∷ 3
     ∷ 1 ∷ 0x61 ∷ 0 ∷ (zeros 252 ++ zeros 25)
 
+-- the first slot with an entry, the clock by its place's last byte and its count
+abbrev pub onePin : ℕ → ℕ → List ℕ → List ℕ
+onePin low running entry = clockPin low running ++ rosterPin ++ entry ++ freePin ++ freePin ++ freePin
+
 -- place 604,802 and count 0; 604,807 and 5; 604,810 and 8; 604,820 and 18, with the new lease stamped 18
 abbrev pub madePin : List ℕ
 madePin = clockPin 0x82 0 ++ rosterPin ++ freePin ++ freePin ++ freePin ++ freePin
 
 abbrev pub pendingPin : List ℕ
-pendingPin = clockPin 0x87 5 ++ rosterPin ++ entryPin 5 0x0E 0x10 5 ++ freePin ++ freePin ++ freePin
+pendingPin = onePin 0x87 5 (entryPin 5 0x0E 0x10 5)
 
 abbrev pub establishedPin : List ℕ
-establishedPin = clockPin 0x8A 8 ++ rosterPin ++ entryPin 6 0x0E 0x10 5 ++ freePin ++ freePin ++ freePin
+establishedPin = onePin 0x8A 8 (entryPin 6 0x0E 0x10 5)
 
 abbrev pub renewedPin : List ℕ
-renewedPin = clockPin 0x94 18 ++ rosterPin ++ entryPin 6 0x1C 0x20 18 ++ freePin ++ freePin ++ freePin
+renewedPin = onePin 0x94 18 (entryPin 6 0x1C 0x20 18)
+
+-- place 604,847 and count 45, the entry as it was; 604,852 and 50, the entry by its kind
+abbrev pub againPin : List ℕ
+againPin = onePin 0xAF 45 (entryPin 5 0x0E 0x10 5)
+
+abbrev pub latePin : ℕ → List ℕ
+latePin kind = onePin 0xB4 50 (entryPin kind 0x0E 0x10 5)
 
 -- a roster of two lines: kind 3, address 16 (2001:db8::5), share 0, limit 3; and address 192.0.2.9, mapped, share 1, limit 2
 abbrev pub rosterGiven : List ℕ
@@ -204,16 +234,25 @@ distinctPin =
     ∷ 1
     ∷ 0 ∷ (zeros 254 ++ zeros 25))
 
--- a server makes, challenges, acknowledges and renews as written out; 8 bytes past each reply keep what they held
+-- a server makes, challenges, acknowledges and renews as written out, and repeats its challenge; 8 bytes past each reply keep what they held
 pub record Pinned (s : Server) : Type 0 where
   pub size : length madePin ≡ 1593
   pub made : s .make makeCall (replicate 1593 0xEE) ≡ record { number = 0; table = madePin }
   pub listed : s .make (makeAt 1 2 rosterGiven) (replicate 633 0xEE) ≡ record { number = 0; table = listedPin }
   pub challenged : s .serve setupCall madePin (replicate 60 0xAA) ≡ record { number = 0; length = 52; table = pendingPin; reply = challengeReply ++ replicate 8 0xAA }
   pub acknowledged : s .serve responseCall pendingPin (replicate 60 0xAA)
-      ≡ record { number = 0; length = 52; table = establishedPin; reply = acknowledgmentReply ++ replicate 8 0xAA }
+      ≡ record { number = 0; length = 52; table = establishedPin; reply = acknowledgmentOf 0x0E 0x0D ++ replicate 8 0xAA }  -- 3,597 at age 3
   pub renewed : s .serve refreshCall establishedPin (replicate 60 0xAA)
       ≡ record { number = 0; length = 52; table = renewedPin; reply = renewalReply ++ replicate 8 0xAA }
+  -- the setup again at age 40: 3,560 remain, and the clock alone moves
+  pub repeated : s .serve againCall pendingPin (replicate 60 0xAA)
+      ≡ record { number = 0; length = 52; table = againPin; reply = challengeOf 0x0D 0xE8 ++ replicate 8 0xAA }
+  -- a response with these at age 45: established, 3,555 remain
+  pub answeredLate : s .serve (lateCall 0x0D 0xE8) againPin (replicate 60 0xAA)
+      ≡ record { number = 0; length = 52; table = latePin 6; reply = acknowledgmentOf 0x0D 0xE3 ++ replicate 8 0xAA }
+  -- with 3,554, one less than what remains: error 4, and the clock alone moves
+  pub tooShort : s .serve (lateCall 0x0D 0xE2) againPin (replicate 60 0xAA)
+      ≡ record { number = 0; length = 52; table = latePin 5; reply = noSuchReply ++ replicate 8 0xAA }
   -- the definitions write and read the three slots so
   pub written : tableBytes distinctTable ≡ distinctPin
   pub readBack : readTable distinctPin ≡ distinctTable

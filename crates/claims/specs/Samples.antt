@@ -1,17 +1,17 @@
 -- Claim 6: document 01's samples W1 to W10, and two steps beside them, one table under one statement, of the definitions that contracts and
--- claims cite. Assumes nothing.
-use Prim.Native.Nat.{ℕ, zero, suc, _+_, _^_}
+-- claims cite; and samples of a response's span, one table under another. Assumes nothing.
+use Prim.Native.Nat.{ℕ, _^_}
 use mathlib.Core.Path.{_≡_}
 use mathlib.Core.Bool.{Bool, true, false}
 use mathlib.Core.List.{List, [], _∷_}
-use lib.ListN.{length}
 use lib.IntN.{ℤ, pos, negsuc}
 use Rattle.model.specs.Lists.{bit, count}
 use Rattle.model.specs.Clock.{step, ageAt, runOut}
 use Rattle.model.specs.Query.{Question, LlqOption}
-use Rattle.model.specs.Table.{Line, Entry, Slot, free, held, Table}
-use Rattle.model.specs.Rules.{entriesOf, grantedLease, freshNumber}
-use Rattle.model.specs.Serve.{Sender, Served, isFree, serveOption}
+use Rattle.model.specs.Table.{Entry, free, held, Table}
+use Rattle.model.specs.Rules.{Holding, entriesOf, grantedLease, freshNumber}
+use Rattle.model.specs.Serve.{Sender, Served, isFree, answers, serveOption}
+use Rattle.claims.specs.Tally.{isAnswered}
 
 -- an established entry with this number
 abbrev pub entryNumbered : ℕ → Entry
@@ -65,3 +65,57 @@ Agree (r ∷ rs) = (r .0 ≡ r .1) × Agree rs
 
 abbrev pub Samples : Type 0
 Samples = Agree samples
+
+-- THE SPAN: granted lease, age and lease sent, and whether a response with it is right
+pub record SpanSample : Type 0 where
+  pub granted : ℕ
+  pub age : ℕ
+  pub sent : ℕ
+  pub right : Bool
+
+abbrev pub span : ℕ → ℕ → ℕ → Bool → SpanSample
+span granted age sent right = record { granted = granted; age = age; sent = sent; right = right }
+
+abbrev pub spanSamples : List SpanSample
+spanSamples =
+    span 3600 0 3600 true  -- at age 0 the granted lease alone
+    ∷ span 3600 0 3599 false
+    ∷ span 3600 40 3559 false  -- at age 40 from 3,560 on
+    ∷ span 3600 40 3560 true
+    ∷ span 3600 40 3580 true
+    ∷ span 3600 40 3600 true
+    ∷ span 3600 40 3601 false
+    ∷ span 60 59 0 false  -- in the last second from 1 on
+    ∷ span 60 59 1 true
+    ∷ span 60 59 60 true
+    ∷ span 60 59 61 false
+    ∷ span 7200 7199 1 true
+    ∷ span 60 0 4294967295 false  -- 2^32 − 1
+    ∷ []
+
+abbrev pub spanSender : Sender
+spanSender = record { address = 9; port = 5353 }
+
+abbrev pub spanQuestion : Question
+spanQuestion = record { name = 1 ∷ 97 ∷ 0 ∷ []; qtype = 12; qclass = 1 }
+
+-- a response of number 7 with this lease
+abbrev pub spanResponse : ℕ → LlqOption
+spanResponse sent = record { version = 1; opcode = 1; error = 0; number = 7; lease = sent }
+
+-- the holding that it names, pending or established
+abbrev pub spanHolding : Bool → ℕ → ℕ → Holding
+spanHolding established granted age =
+    record { established = established; address = 9; port = 5353; number = 7; lease = granted; age = age; qtype = 12; qclass = 1; name = 1 ∷ 97 ∷ 0 ∷ [] }
+
+-- each is right or not by the rule that the contracts cite, and by the tally's
+abbrev pub SpansAgree : List SpanSample → Type 0
+SpansAgree [] = Unit {0}
+SpansAgree (x ∷ xs) =
+    ((established : Bool)
+    → (answers spanSender spanQuestion (spanResponse (x .sent)) (spanHolding established (x .granted) (x .age)) ≡ x .right)
+    × (isAnswered spanSender spanQuestion (spanResponse (x .sent)) (spanHolding established (x .granted) (x .age)) ≡ x .right))
+    × SpansAgree xs
+
+abbrev pub SpanSamples : Type 0
+SpanSamples = SpansAgree spanSamples

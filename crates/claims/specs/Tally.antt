@@ -150,9 +150,9 @@ isRefresh o = wellFormed o && eqb (o .opcode) 2
 abbrev pub isOf : Sender → Question → Holding → Bool
 isOf s q h = eqb (h .address) (s .address) && eqb (h .port) (s .port) && same (h .name) (q .name) && eqb (h .qtype) (q .qtype) && eqb (h .qclass) (q .qclass)
 
--- a response is right for it: number, address, port, question and granted lease
+-- a response is right for it: number, address, port, question, and a lease sent that is at most the granted one and with the age at least that
 abbrev pub isAnswered : Sender → Question → LlqOption → Holding → Bool
-isAnswered s q o h = isOf s q h && eqb (h .number) (o .number) && eqb (h .lease) (o .lease)
+isAnswered s q o h = isOf s q h && eqb (h .number) (o .number) && (leb (h .lease) (o .lease + h .age) && leb (o .lease) (h .lease))
 
 -- a refresh is right for it: established, number, address, port and question
 abbrev pub isRefreshed : Sender → Question → LlqOption → Holding → Bool
@@ -208,14 +208,14 @@ renewedHolding lease h =
 abbrev pub outcomeTo : LlqOption → ℕ → ℕ → ℕ → Outcome
 outcomeTo o error number lease = record { opcode = o .opcode; error = error; number = number; lease = lease }
 
--- a setup that finds a holding changes nothing; otherwise the setup rule, read on the tally, says full or adds a pending holding
+-- a setup that finds a holding changes nothing and is told its lease less its age; otherwise the setup rule, read on the tally, says full or adds a pending holding
 abbrev pub setupTally : Sender → ℕ → Question → LlqOption → Tally → List Holding → Tally
 setupTally s r q o y [] = cond (isFull y (s .address)) y (withHoldings y (y .holdings ++ (newHolding s r q o y ∷ [])))
 setupTally s r q o y (h ∷ hs) = y
 
 abbrev pub setupOutcome : Sender → ℕ → Question → LlqOption → Tally → List Holding → Outcome
 setupOutcome s r q o y [] = cond (isFull y (s .address)) (outcomeTo o 1 0 60) (outcomeTo o 0 (numberFor (y .holdings) r) (leaseFor (o .lease)))
-setupOutcome s r q o y (h ∷ hs) = outcomeTo o 0 (h .number) (h .lease)
+setupOutcome s r q o y (h ∷ hs) = outcomeTo o 0 (h .number) (h .lease - h .age)
 
 -- a response right by its rule establishes its holding
 abbrev pub responseTally : Sender → Question → LlqOption → Tally → Tally

@@ -10,9 +10,10 @@ use lib.ListN.{length, getD}
 use lib.Dec.{eqb, leb, ltb}
 use Rattle.model.specs.Lists.{count, any, indexOf}
 use Rattle.model.specs.Numbers.{bigEndian}
+use Rattle.model.specs.Clock.{ageAt}
 use Rattle.model.specs.Table.{Slot, free, held, slotAt, sizeOf, readEntry, readSlot, readTable, listed}
 use Rattle.model.specs.Rules.{Holding, holding, holdings, heldBy, numbered, Counts, shareOf, limitOf, reserve, full, freshNumber}
-use Rattle.model.specs.Serve.{has, findEntry}
+use Rattle.model.specs.Serve.{inSpan, rightLease, has, findEntry}
 use Rattle.model.proofs.ListLaws.{count-at, every-nil, every-next, every-not, index-upTo, index-upTo-none, length-upTo, getD-upTo, upTo-none}
 use Rattle.model.proofs.HoldingLaws.{count-entries}
 use Rattle.layout.specs.Shape.{inUse, slotsTo, linesTo}
@@ -20,12 +21,12 @@ use Rattle.layout.specs.Held.{heldTo}
 use Rattle.layout.proofs.LayoutLaws.{roster-read, slots-read, holdings-read}
 use Rattle.layout.proofs.ReadLaws.{running-read}
 use Rattle.record.specs.declared.State.{State}
-use Rattle.record.specs.State.{stateOf, hasEntry, isEstablished}
+use Rattle.record.specs.State.{hasEntry, isEstablished}
 use Rattle.record.proofs.StateLaws.{kind-in, established-is}
 use Rattle.entries.specs.declared.Entry.{Entry}
 use Rattle.entries.specs.declared.Found.{Found}
 use Rattle.entries.specs.declared.Found.the-variants.{Slot as slot, Nothing as nothing}
-use Rattle.entries.specs.Reads.{entryAt, foundAt, slotHas, noneTo}
+use Rattle.entries.specs.Reads.{sent, entryAt, foundAt, slotHas, noneTo}
 
 -- ONE SLOT
 
@@ -53,7 +54,7 @@ pub has-same : (r : ℕ) (p q : Holding → Bool) (b : List ℕ) (at : ℕ) → 
     → has r p (readSlot b at) ≡ has r q (readSlot b at)
 has-same r p q b at e = has-is r p b at ∙ ap (λ (v : Bool). inUse (getD b at 0) && v) e ∙ sym (has-is r q b at)
 
--- THE STATE of an entry that is read
+-- AN ENTRY that is read
 module _ (b : List ℕ) (at : ℕ) (e : Entry) (h : e ≡ entryAt b at) where
   -- it is an entry's kind, or not
   pub state-in : (s : State) → e .state ≡ s → inUse (getD b at 0) ≡ hasEntry s
@@ -64,6 +65,11 @@ module _ (b : List ℕ) (at : ℕ) (e : Entry) (h : e ≡ entryAt b at) where
   pub state-established : (s : State) → e .state ≡ s → readEntry b at .established ≡ isEstablished s
   unfolding entryAt readEntry
   state-established s g = sym (established-is (getD b at 0)) ∙ ap isEstablished (sym (ap (λ (x : Entry). x .state) h) ∙ g)
+
+  -- its span is the slot's entry's
+  pub span-read : (r number lease : ℕ) → inSpan (e .lease) (ageAt r (e .stamp)) lease ≡ rightLease (sent number lease) (holding r (readEntry b at))
+  unfolding entryAt readEntry
+  span-read r number lease = rw h
 
 -- THE SLOTS OF A TABLE OF n
 

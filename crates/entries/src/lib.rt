@@ -11,7 +11,7 @@ ghost use Rattle.model.specs.Lists.{count, indexOf};
 ghost use Rattle.model.specs.Clock.{ageAt, runOut};
 ghost use Rattle.model.specs.Table.{slotAt, sizeOf, readEntry, readSlot, readTable};
 ghost use Rattle.model.specs.Rules.{holdings, numbered, asks, full, freshNumber};
-ghost use Rattle.model.specs.Serve.{isFree, findEntry, slotRunOut, answers, refreshes};
+ghost use Rattle.model.specs.Serve.{isFree, findEntry, slotRunOut, inSpan, answers, refreshes};
 ghost use Rattle.wire.specs.Records.{questionOf};
 ghost use Rattle.entries.specs.Reads.{addressOf, senderOf, entryAt, foundAt, sameFields, slotHas, sent};
 ghost use Rattle.layout.specs.Held.{holdingAt};
@@ -110,7 +110,17 @@ fn slot_asks(t: &[u8], i: usize, e: Entry, s: Sender, d: &[u8], q: Question) -> 
     }
 }
 
-// Slot i has an entry of this number, sender and question whose lease is the one sent: a response finds it, pending or established.
+// A response's lease is in the span: no less than what remains of the granted lease at this age, and no more than it.
+fn in_span(granted: u32, age: u32, sent: u32) -> bool
+    ensures { λ r. ⌜ r ≡ inSpan granted age sent ⌝ }
+{
+    if sent > granted {
+        return false;
+    }
+    granted - sent <= age
+}
+
+// Slot i has an entry of this number, sender and question in whose span the lease sent is: a response finds it, pending or established.
 fn slot_answers(
     t: &[u8],
     i: usize,
@@ -128,10 +138,11 @@ fn slot_answers(
     if own.0 != number.0 {
         return false;
     }
-    if e.lease != lease {
-        return false;
+    let age = clock::age(octets::get32(t, layout::RUNNING_AT), e.stamp);
+    if in_span(e.lease, age, lease) {
+        return slot_asks(t, i, e, s, d, q);
     }
-    slot_asks(t, i, e, s, d, q)
+    false
 }
 
 // Slot i has an established entry of this number, sender and question: a refresh finds it.

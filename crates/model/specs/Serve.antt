@@ -1,13 +1,13 @@
 -- Document 01's setup, response and refresh: what one option does to the table as it stands at that option. Assumes nothing.
-use Prim.Native.Nat.{ℕ, zero, suc, _+_, _-_}
+use Prim.Native.Nat.{ℕ, _+_, _-_}
 use mathlib.Core.Bool.{Bool, true, false, not, cond, _&&_, _||_}
-use mathlib.Core.List.{List, [], _∷_, map}
+use mathlib.Core.List.{List, map}
 use lib.ListN.{length, getD, set}
-use lib.Dec.{eqb}
+use lib.Dec.{eqb, leb}
 use Rattle.model.specs.Lists.{count, indexOf}
 use Rattle.model.specs.Clock.{Clock, advance, ageAt, runOut}
 use Rattle.model.specs.Query.{Question, LlqOption}
-use Rattle.model.specs.Table.{Line, Entry, Slot, free, held, Table}
+use Rattle.model.specs.Table.{Entry, Slot, free, held, Table}
 use Rattle.model.specs.Rules.{Holding, holding, holdings, asks, numbered, full, grantedLease, freshNumber}
 
 -- CHANGES OF A TABLE
@@ -112,6 +112,10 @@ abbrev pub malformed : LlqOption → ℕ → Table → Served
 malformed o error t =
     record { table = t; outcome = record { opcode = o .opcode; error = error; number = cond (eqb (o .opcode) 2) (o .number) 0; lease = 0 } }
 
+-- the life that remains: the granted lease less the age, RFC 8764 sections 5.1 and 5.2.4
+abbrev pub lifeLeft : ℕ → ℕ → ℕ
+lifeLeft lease age = lease - age
+
 -- SETUP, RFC 8764 section 5.2.1
 
 -- the entry that a setup adds: pending, with the setup rule's lease and number, its stamp the running count
@@ -129,7 +133,7 @@ newEntry s r q o t =
       name = q .name;
     }
 
--- a challenge, RFC 8764 section 5.2.2: an entry's number and granted lease
+-- the first challenge, RFC 8764 section 5.2.2: an entry's number and granted lease, which at age 0 is the life that remains
 abbrev pub challenge : LlqOption → Entry → Outcome
 challenge o e = record { opcode = o .opcode; error = 0; number = e .number; lease = e .lease }
 
@@ -145,10 +149,14 @@ granted s r q o t =
       outcome = challenge o (newEntry s r q o t);
     }
 
--- of the slot whose entry is of this address, port and question: it stays and its challenge is repeated (RFC 8764 section 5.1); without one,
--- full or granted
+-- of the slot whose entry is of this address, port and question, pending or not: it stays, and its challenge is repeated with the life that
+-- remains (RFC 8764 section 5.1); without one, full or granted
 unfoldable pub onSetup : Sender → ℕ → Question → LlqOption → Table → Slot → Served
-onSetup s r q o t (held e) = record { table = t; outcome = challenge o e }
+onSetup s r q o t (held e) =
+    record {
+      table = t;
+      outcome = record { opcode = o .opcode; error = 0; number = e .number; lease = lifeLeft (e .lease) (ageAt (t .clock .running) (e .stamp)) };
+    }
 onSetup s r q o t free =
     cond (full (length (t .slots)) (t .roster) (count (holdings t)) (s .address))
     (record { table = t; outcome = retryLater o })
@@ -159,11 +167,15 @@ serveSetup s r q o t = onSetup s r q o t (slotOf t (findEntry (asks (s .address)
 
 -- RESPONSE, RFC 8764 section 5.2.3
 
--- the lease that a response must repeat: the granted one
-abbrev pub rightLease : LlqOption → Holding → Bool
-rightLease o h = eqb (h .lease) (o .lease)
+-- the span of the leases that a response may repeat: from the life that remains to the granted lease, both included
+abbrev pub inSpan : ℕ → ℕ → ℕ → Bool
+inSpan granted age sent = leb (lifeLeft granted age) sent && leb sent granted
 
--- the entry that a response is right for, RFC 8764 section 5.2.4: this number, address, port and question, and the granted lease
+-- the lease sent is in the span of the holding
+abbrev pub rightLease : LlqOption → Holding → Bool
+rightLease o h = inSpan (h .lease) (h .age) (o .lease)
+
+-- the entry that a response is right for, RFC 8764 section 5.2.4: this number, address, port and question, and a lease in its span
 abbrev pub answers : Sender → Question → LlqOption → Holding → Bool
 answers s q o h = numbered (o .number) h && asks (s .address) (s .port) q h && rightLease o h
 
@@ -181,12 +193,13 @@ establish e =
       name = e .name;
     }
 
--- it becomes, or stays, established (RFC 8764 section 5.2.4): error 0, its number, lease less age; otherwise error 4, number 0, lease 0 (house)
+-- it becomes, or stays, established (RFC 8764 section 5.2.4): error 0, its number, the life that remains; otherwise error 4, number 0, lease 0
+-- (house)
 unfoldable pub onResponse : LlqOption → Table → ℕ → Slot → Served
 onResponse o t i (held e) =
     record {
       table = withSlot t i (held (establish e));
-      outcome = record { opcode = o .opcode; error = 0; number = e .number; lease = e .lease - ageAt (t .clock .running) (e .stamp) };
+      outcome = record { opcode = o .opcode; error = 0; number = e .number; lease = lifeLeft (e .lease) (ageAt (t .clock .running) (e .stamp)) };
     }
 onResponse o t i free = record { table = t; outcome = record { opcode = o .opcode; error = noSuchLlq; number = 0; lease = 0 } }
 

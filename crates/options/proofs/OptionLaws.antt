@@ -1,25 +1,24 @@
 -- Laws for one option served: one for each way out of setup, response and refresh. Assumes nothing.
-use Prim.Native.Nat.{ℕ, suc, _+_, _-_, _*_, _^_, _≤_, _<_}
+use Prim.Native.Nat.{ℕ, suc, _+_, _*_, _^_, _≤_, _<_}
 use native.Mathlib.Nat.{lt-of-lt-of-le, mul-le-mul-right}
 use native.Mathlib.Omega.{arith}
 use mathlib.Core.Path.{_≡_, refl, sym, ap, _∙_, subst}
-use mathlib.Core.Bool.{Bool, true, false, cond, _&&_, true≢false}
+use mathlib.Core.Bool.{Bool, true, false, cond, true≢false}
 use mathlib.Core.Logic.{_⊎_, inl, inr, _≢_}
 use borrow.Author.Tests.{eq-eqb, ne-eqb}
 use mathlib.Core.List.{List, [], _∷_}
 use lib.ListN.{length, getD, set}
 use lib.Seq.{set-out}
-use lib.Dec.{eqb}
 use Rattle.model.specs.Lists.{count, indexOf}
 use Rattle.model.specs.Numbers.{Bytes, bigEndian, bytesOf, splice, encode}
 use Rattle.model.specs.Clock.{ageAt}
 use Rattle.model.specs.Query as query
 use Rattle.model.specs.Table as table
 use Rattle.model.specs.Table.{free, held, Table, slotAt, slotsIn, sizeOf, readTable, readSlot, readEntry, slotBytes}
-use Rattle.model.specs.Rules.{Holding, holding, holdings, asks, full, grantedLease, freshNumber}
+use Rattle.model.specs.Rules.{Holding, holdings, asks, full, grantedLease, freshNumber}
 use Rattle.model.specs.Sound.{FitsEntry}
 use Rattle.model.specs.Serve as serve
-use Rattle.model.specs.Serve.{has, isFree, findEntry, slotOf, withSlot, newEntry, granted, onSetup, serveSetup, answers, establish, onResponse, serveResponse, refreshes, renew, onRefresh, serveRefresh, ended, serveKind, serveOption, kindOfOption}
+use Rattle.model.specs.Serve.{has, isFree, findEntry, slotOf, withSlot, lifeLeft, newEntry, granted, onSetup, serveSetup, answers, establish, onResponse, serveResponse, refreshes, renew, onRefresh, serveRefresh, ended, serveKind, serveOption, kindOfOption}
 use Rattle.model.proofs.NumberLaws.{big-lt}
 use Rattle.model.proofs.ListLaws.{index-hit, getD-past}
 use Rattle.model.proofs.Meaning.{fits-entry, slots-count}
@@ -140,12 +139,12 @@ module _ (b : List ℕ) (bytes : Bytes b) (formed : WellFormed b) (n : ℕ) (siz
     -- SETUP
 
     module _ {i : ℕ} (is : i ≡ findEntry (asks (senderOf s .address) (s .port) q) (readTable b)) where
-      pub setup-found : i < n → (e : Entry) → e ≡ entryAt b (slotAt i) → (x : ServedOption) → x ≡ servedWith o (out.Challenge (e .number) (e .lease))
-          → ServedAs (serveSetup (senderOf s) r q (optionOf o) (readTable b)) b x
+      pub setup-found : i < n → (e : Entry) → e ≡ entryAt b (slotAt i) → (left : ℕ) → left ≡ lifeLeft (e .lease) (ageAt (bigEndian b 5 4) (e .stamp))
+          → (x : ServedOption) → x ≡ servedWith o (out.Challenge (e .number) left) → ServedAs (serveSetup (senderOf s) r q (optionOf o) (readTable b)) b x
       unfolding serveSetup onSetup entryAt readEntry
-      setup-found l e h x g =
+      setup-found l e h left k x g =
           served-by (ap (onSetup (senderOf s) r q (optionOf o) (readTable b)) (found-slot (asks (senderOf s .address) (s .port) q) is l))
-          (record { table = unwritten b formed; outcome = ap servedOutcome g ∙ rw h })
+          (record { table = unwritten b formed; outcome = ap servedOutcome g ∙ rw (k, h, running-read b) })
 
       lost : n ≤ i → serveSetup (senderOf s) r q (optionOf o) (readTable b)
           ≡ cond (full n (readTable b .roster) (count (holdings (readTable b))) (senderOf s .address))
@@ -174,7 +173,7 @@ module _ (b : List ℕ) (bytes : Bytes b) (formed : WellFormed b) (n : ℕ) (siz
           served-by (ap (onResponse (optionOf o) (readTable b) (findEntry (answers (senderOf s) q (optionOf o)) (readTable b)))
           (lost-slot (answers (senderOf s) q (optionOf o)) is l)) (record { table = unwritten b formed; outcome = ap servedOutcome g })
 
-      pub response-found : i < n → (e : Entry) → e ≡ entryAt b (slotAt i) → (left : ℕ) → left ≡ e .lease - ageAt (bigEndian b 5 4) (e .stamp) → (y : List ℕ)
+      pub response-found : i < n → (e : Entry) → e ≡ entryAt b (slotAt i) → (left : ℕ) → left ≡ lifeLeft (e .lease) (ageAt (bigEndian b 5 4) (e .stamp)) → (y : List ℕ)
           → y ≡ splice (slotAt i) 1 (bytesOf 1 6) b → (x : ServedOption) → x ≡ servedWith o (out.Established (e .number) left)
           → ServedAs (serveResponse (senderOf s) q (optionOf o) (readTable b)) y x
       unfolding serveResponse onResponse entryAt readEntry

@@ -7,11 +7,13 @@ use wire::LlqNumber;
 use wire::LlqOption;
 use wire::Question;
 ghost use mathlib.Core.Path.{_≡_};
-ghost use Prim.Native.Nat.{_+_, _-_, _≤_};
+ghost use Prim.Native.Nat.{_+_, _≤_};
 ghost use lib.ListN.{length};
+ghost use Rattle.model.specs.Numbers.{bigEndian};
+ghost use Rattle.model.specs.Clock.{ageAt};
 ghost use Rattle.model.specs.Table.{sizeOf, readTable};
 ghost use Rattle.model.specs.Rules.{grantedLease};
-ghost use Rattle.model.specs.Serve.{kindOfOption, granted, serveSetup, serveResponse, serveRefresh, serveOption};
+ghost use Rattle.model.specs.Serve.{kindOfOption, lifeLeft, granted, serveSetup, serveResponse, serveRefresh, serveOption};
 ghost use Rattle.wire.specs.Records.{questionOf, optionOf};
 ghost use Rattle.entries.specs.Reads.{senderOf};
 ghost use Rattle.table.specs.Written.{WellFormed};
@@ -19,7 +21,7 @@ ghost use Rattle.options.specs.Outcomes.{kindIn, outcomeError, outcomeLe
 
 // What an option came to.
 pub enum Outcome {
-    // an entry, found or new, pending or not
+    // an entry, found or new, pending or not, and what is left of its lease
     Challenge(LlqNumber, u32),
     Full,
     // an established entry and what is left of its lease
@@ -84,10 +86,12 @@ fn granted_lease(asked: u32) -> u32
     asked
 }
 
-// A lease less an age, 0 where the age is more.
-fn less(lease: u32, age: u32) -> u32
-    ensures { λ r. ⌜ r ≡ lease - age ⌝ }
+// The life that remains of a lease of this stamp: the lease less the age by the table's running count, 0 where the age is more.
+fn life_left(t: &[u8], lease: u32, stamp: u32) -> u32
+    requires { ⌜ 9 ≤ length (now t) ⌝ }
+    ensures { λ r. ⌜ r ≡ lifeLeft lease (ageAt (bigEndian (now (t .entry)) 5 4) stamp) ⌝ }
 {
+    let age = clock::age(octets::get32(t, layout::RUNNING_AT), stamp);
     if lease <= age {
         return 0;
     }
@@ -156,7 +160,10 @@ fn serve_setup(
     match entries::find_asked(t, n, s, d, q) {
         Found::Slot(_, e) => {
             let number = e.number;
-            served(o, Outcome::Challenge(number, e.lease))
+            served(
+                o,
+                Outcome::Challenge(number, life_left(t, e.lease, e.stamp)),
+            )
         }
         Found::Nothing => {
             if entries::is_full(t, n, s.high, s.low) {
@@ -182,9 +189,9 @@ fn serve_response(
     match entries::find_answered(t, n, s, d, q, asked, o.lease) {
         Found::Slot(i, e) => {
             let number = e.number;
-            let age = clock::age(octets::get32(t, layout::RUNNING_AT), e.stamp);
+            let left = life_left(t, e.lease, e.stamp);
             table::establish_at(t, i);
-            served(o, Outcome::Established(number, less(e.lease, age)))
+            served(o, Outcome::Established(number, left))
         }
         Found::Nothing => served(o, Outcome::NoSuchLlq(LlqNumber(0))),
     }

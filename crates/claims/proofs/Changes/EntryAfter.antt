@@ -27,7 +27,7 @@ module _ (t : Table) (k : ℕ) (z : Slot) where
 -- AN ENTRY e HELD IN SLOT j BEFORE: it stays, or the option is right for it
 pub data EntryAfter (s : Sender) (q : Question) (o : LlqOption) (t u : Table) (j : ℕ) (e : Entry) : Type 0 where
   stays : slotOf u j ≡ held e → EntryAfter s q o t u j e
-  confirmed : e .established ≡ false → RightResponse s q o e → slotOf u j ≡ held (establish e) → EntryAfter s q o t u j e
+  confirmed : e .established ≡ false → RightResponse (t .clock .running) s q o e → slotOf u j ≡ held (establish e) → EntryAfter s q o t u j e
   renewed : RightRefresh s q o e → o .lease ≢ 0 → slotOf u j ≡ held (renewedEntry t o e) → EntryAfter s q o t u j e
   ended : RightRefresh s q o e → o .lease ≡ 0 → slotOf u j ≡ free → EntryAfter s q o t u j e
 
@@ -44,6 +44,14 @@ module _ (s : Sender) (q : Question) (o : LlqOption) (t u : Table) where
           let d : EntryAfter s q o t u k f = rule (ap (λ (w : Table). slotOf w k) hu ∙ slot-written t k z i) in
           subst (λ (n : ℕ). EntryAfter s q o t u n e) (sym p) (subst (λ (y : Entry). EntryAfter s q o t u k y) p2 d)
       go false m = stays (ap (λ (w : Table). slotOf w j) hu ∙ slot-other t k z j (eqb-false j k m) ∙ h)
+
+  -- the clock stays
+  pub clock-after : Change s q o t u → u .clock ≡ t .clock
+  clock-after (nothing hu) = ap (λ (w : Table). w .clock) hu
+  clock-after (grant k f i hk low g hu) = ap (λ (w : Table). w .clock) hu
+  clock-after (confirm k f i hk b right hu) = ap (λ (w : Table). w .clock) hu
+  clock-after (renew k f i hk right n hu) = ap (λ (w : Table). w .clock) hu
+  clock-after (end k f i hk right n hu) = ap (λ (w : Table). w .clock) hu
 
   pub entry-after : Change s q o t u → (j : ℕ) (e : Entry) → slotOf t j ≡ held e → EntryAfter s q o t u j e
   entry-after (nothing hu) j e h = stays (ap (λ (w : Table). slotOf w j) hu ∙ h)
@@ -83,10 +91,10 @@ module _ (s : Sender) (q : Question) (o : LlqOption) (t u : Table) where
 
   -- established just after: the option was a right response to it
   pub confirmed-right : Change s q o t u → (j : ℕ) (e : Entry) → slotOf t j ≡ held e → e .established ≡ false → slotOf u j ≡ held (establish e)
-      → RightResponse s q o e
+      → RightResponse (t .clock .running) s q o e
   confirmed-right c j e h b w = go (entry-after c j e h)
     where
-      go : EntryAfter s q o t u j e → RightResponse s q o e
+      go : EntryAfter s q o t u j e → RightResponse (t .clock .running) s q o e
       go (stays z) = never (ap (λ (y : Entry). y .established) (held-inj e (establish e) (sym z ∙ w))) b
       go (confirmed p right z) = right
       go (renewed right n z) = never (right .established) b
@@ -94,16 +102,16 @@ module _ (s : Sender) (q : Question) (o : LlqOption) (t u : Table) where
 
   -- nothing is established that was not held
   pub only-held : Change s q o t u → (j : ℕ) (x : Entry) → slotOf u j ≡ held x → x .established ≡ true
-      → (e : Entry) × ((slotOf t j ≡ held e) × ((e .established ≡ true) ⊎ RightResponse s q o e))
+      → (e : Entry) × ((slotOf t j ≡ held e) × ((e .established ≡ true) ⊎ RightResponse (t .clock .running) s q o e))
   only-held c j x w b = go (slotOf t j) refl
     where
-      on : (e : Entry) → EntryAfter s q o t u j e → (e .established ≡ true) ⊎ RightResponse s q o e
+      on : (e : Entry) → EntryAfter s q o t u j e → (e .established ≡ true) ⊎ RightResponse (t .clock .running) s q o e
       on e (stays z) = inl (ap (λ (y : Entry). y .established) (held-inj e x (sym z ∙ w)) ∙ b)
       on e (confirmed p right z) = inr right
       on e (renewed right n z) = inl (right .established)
       on e (ended right n z) = inl (right .established)
 
-      go : (z : Slot) → slotOf t j ≡ z → (e : Entry) × ((slotOf t j ≡ held e) × ((e .established ≡ true) ⊎ RightResponse s q o e))
+      go : (z : Slot) → slotOf t j ≡ z → (e : Entry) × ((slotOf t j ≡ held e) × ((e .established ≡ true) ⊎ RightResponse (t .clock .running) s q o e))
       go free h = never b (free-after c j x h w)
       go (held e) h = (e, (h, on e (entry-after c j e h)))
 

@@ -145,7 +145,7 @@ module _ (s : Sender) (r : ℕ) (q : Question) (o : LlqOption) (t : Table) (x : 
       go refresh f = refresh-change f
 
   -- a right response to a held entry establishes it
-  pub response-establishes : (j : ℕ) (e : Entry) → slotOf t j ≡ held e → RightResponse s q o e → slotOf (serveOption s r q o t .table) j ≡ held (establish e)
+  pub response-establishes : (j : ℕ) (e : Entry) → slotOf t j ≡ held e → RightResponse (t .clock .running) s q o e → slotOf (serveOption s r q o t .table) j ≡ held (establish e)
   unfolding serveKind serveResponse onResponse
   response-establishes j e h right =
       let k : kindOfOption o ≡ response = response-kind o (right .response) in

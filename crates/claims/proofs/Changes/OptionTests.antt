@@ -2,14 +2,16 @@
 use Prim.Native.Nat.{ℕ, _≤_}
 use mathlib.Core.Path.{_≡_, refl}
 use mathlib.Core.Bool.{Bool, true, false, not, cond, _&&_, _||_}
-use lib.Dec.{eqb}
-use borrow.Author.Tests.{eqb-true, eqb-false, eq-eqb, ne-eqb}
+use native.Mathlib.Omega.{arith}
+use lib.Dec.{eqb, leb}
+use borrow.Author.Tests.{eqb-true, eqb-false, eq-eqb, ne-eqb, leb-true, le-leb}
 use Rattle.model.specs.Lists.{count}
+use Rattle.model.specs.Clock.{ageAt}
 use Rattle.model.specs.Query.{Question, LlqOption}
 use Rattle.model.specs.Table.{Entry, Table}
 use Rattle.model.specs.Rules.{holding, holdings, numbered, asks}
 use Rattle.model.specs.Sound.{Sound}
-use Rattle.model.specs.Serve.{Sender, Kind, badVersion, badFormat, setup, response, refresh, kindOfOption, answers, rightLease, refreshes}
+use Rattle.model.specs.Serve.{Sender, Kind, badVersion, badFormat, setup, response, refresh, kindOfOption, lifeLeft, answers, rightLease, refreshes}
 use Rattle.model.proofs.ListLaws.{and-left, and-right, and-both}
 use Rattle.model.proofs.Facts.{agree, agreed, asker, one-asks}
 use Rattle.claims.specs.Changes.{Setup, Response, Refresh, Own, RightResponse, RightRefresh}
@@ -72,25 +74,31 @@ module _ (s : Sender) (q : Question) (r : ℕ) (e : Entry) where
       (record { address = x .address; port = x .port; qtype = x .qtype; qclass = x .qclass; name = x .name })
 
   module _ (o : LlqOption) where
-    pub answers-right : Response o → answers s q o (holding r e) ≡ true → RightResponse s q o e
+    pub answers-right : Response o → answers s q o (holding r e) ≡ true → RightResponse r s q o e
     answers-right x h =
         let a = eqb (e .number) (o .number) in
         let b = asks (s .address) (s .port) q (holding r e) in
-        let c = eqb (e .lease) (o .lease) in
+        let c = rightLease o (holding r e) in
         let p : a && b ≡ true = and-left (a && b) c h in
+        let f : c ≡ true = and-right (a && b) c h in
+        let life = lifeLeft (e .lease) (ageAt r (e .stamp)) in
+        let least = leb-true life (o .lease) (and-left (leb life (o .lease)) (leb (o .lease) (e .lease)) f) in
         record {
           response = x;
           own = asks-own (and-right a b p);
           number = eqb-true (e .number) (o .number) (and-left a b p);
-          lease = eqb-true (e .lease) (o .lease) (and-right (a && b) c h);
+          least = omega (arith, least);
+          most = leb-true (o .lease) (e .lease) (and-right (leb life (o .lease)) (leb (o .lease) (e .lease)) f);
         }
 
-    pub right-answers : RightResponse s q o e → answers s q o (holding r e) ≡ true
+    pub right-answers : RightResponse r s q o e → answers s q o (holding r e) ≡ true
     right-answers x =
         let a = eqb (e .number) (o .number) in
         let b = asks (s .address) (s .port) q (holding r e) in
-        let c = eqb (e .lease) (o .lease) in
-        and-both (a && b) c (and-both a b (eq-eqb (e .number) (o .number) (x .number)) (own-asks (x .own))) (eq-eqb (e .lease) (o .lease) (x .lease))
+        let life = lifeLeft (e .lease) (ageAt r (e .stamp)) in
+        let least = x .least in
+        and-both (a && b) (rightLease o (holding r e)) (and-both a b (eq-eqb (e .number) (o .number) (x .number)) (own-asks (x .own)))
+        (and-both (leb life (o .lease)) (leb (o .lease) (e .lease)) (le-leb life (o .lease) (omega (arith, least))) (le-leb (o .lease) (e .lease) (x .most)))
 
     pub refreshes-right : Refresh o → refreshes s q o (holding r e) ≡ true → RightRefresh s q o e
     refreshes-right x h =

@@ -1,5 +1,5 @@
 -- A setup keeps the table and the tally related, and both say the same of it. Assumes nothing.
-use Prim.Native.Nat.{ℕ, _+_, _≤_, _<_}
+use Prim.Native.Nat.{ℕ, _+_, _-_, _≤_, _<_}
 use native.Mathlib.Omega.{arith}
 use mathlib.Core.Path.{_≡_, refl, sym, ap, _∙_, fun-ext}
 use mathlib.Core.Bool.{Bool, true, false, cond}
@@ -152,7 +152,7 @@ module _ (s : Sender) (r : ℕ) (q : Question) (o : LlqOption) (t : Table) (y : 
   found f =
       let k = kept m t y rel at f (one-question t (rel .sound) s q m (λ h z. z)) in
       rw (set-up (held (f .entry)) (f .slot), k .1 .1 .0)
-      (rel, same-outcome o 0 (sym (k .1 .1 .1 (λ z. z .number))) (sym (k .1 .1 .1 (λ z. z .lease))))
+      (rel, same-outcome o 0 (sym (k .1 .1 .1 (λ z. z .number))) (sym (k .1 .1 .1 (λ z. z .lease - z .age))))
 
   pub setup-keeps : Keeps (serveSetup s r q o t) (setupTally s r q o y (keep m (y .holdings))) (setupOutcome s r q o y (keep m (y .holdings)))
   setup-keeps = ⊎-elim missing found (find-cases (asks (s .address) (s .port) q) m t (is-of s q))

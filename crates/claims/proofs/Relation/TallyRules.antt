@@ -6,12 +6,12 @@ use mathlib.Core.Bool.{Bool, true, false, cond, not, _&&_, _||_, or-true, and-as
 use mathlib.Core.List.{List, [], _∷_}
 use mathlib.Core.Logic.{inl, inr}
 use lib.Dec.{eqb, leb, ltb}
-use borrow.Author.Tests.{eqb-true, ltb-true, ltb-false, leb-true, le-leb}
+use borrow.Author.Tests.{eqb-true, ltb-true, ltb-false, leb-true, leb-false, le-leb, lt-leb}
 use Rattle.model.specs.Lists.{bit, count, same}
 use Rattle.model.specs.Query.{Question, LlqOption}
 use Rattle.model.specs.Table.{Line}
 use Rattle.model.specs.Rules.{Holding, heldBy, numbered, asks, shareOf, limitOf, reserve, full, grantedLease}
-use Rattle.model.specs.Serve.{Sender, answers, refreshes, Kind, badVersion, badFormat, setup, response, refresh, kindOfOption}
+use Rattle.model.specs.Serve.{Sender, lifeLeft, rightLease, answers, refreshes, Kind, badVersion, badFormat, setup, response, refresh, kindOfOption}
 use Rattle.model.proofs.ListLaws.{count-any}
 use Rattle.claims.specs.Tally.{Tally, heldIn, lineOf, reserveIn, freeIn, isFull, Full, leaseFor, numberUsed, isSetup, isResponse, isRefresh, isOf, isAnswered, isRefreshed}
 
@@ -122,9 +122,18 @@ is-of s q h =
     let c = eqb (h .qclass) (q .qclass) in
     ap (λ (x : Bool). x && c) (and-swap own n t) ∙ and-swap (own && t) n c
 
+-- a lease is at most what is sent with the age exactly if what remains of it is at most what is sent
+pub least-sent : (lease age sent : ℕ) → leb lease (sent + age) ≡ leb (lifeLeft lease age) sent
+least-sent lease age sent = go (leb lease (sent + age)) refl
+  where
+    go : (b : Bool) → leb lease (sent + age) ≡ b → b ≡ leb (lifeLeft lease age) sent
+    go true e = sym (le-leb (lifeLeft lease age) sent (omega (arith, leb-true lease (sent + age) e)))
+    go false e = sym (lt-leb (lifeLeft lease age) sent (omega (arith, leb-false lease (sent + age) e)))
+
 pub is-answered : (s : Sender) (q : Question) (o : LlqOption) (h : Holding) → isAnswered s q o h ≡ answers s q o h
 is-answered s q o h =
-    rw (is-of s q h) (ap (λ (x : Bool). x && eqb (h .lease) (o .lease)) (and-comm (asks (s .address) (s .port) q h) (eqb (h .number) (o .number))))
+    rw (is-of s q h, least-sent (h .lease) (h .age) (o .lease))
+    (ap (λ (x : Bool). x && rightLease o h) (and-comm (asks (s .address) (s .port) q h) (eqb (h .number) (o .number))))
 
 pub is-refreshed : (s : Sender) (q : Question) (o : LlqOption) (h : Holding) → isRefreshed s q o h ≡ refreshes s q o h
 is-refreshed s q o h =

@@ -35,7 +35,7 @@ module _ (s : Sender) (r : ℕ) (q : Question) (o : LlqOption) (t : Table) (fits
 
   setup-range : (x : Slot) → FitsSlot x → OutcomeRange o (onSetup s r q o t x .outcome)
   unfolding onSetup
-  setup-range (held e) f = record { opcode = refl; error = omega arith; number = f .number; lease = f .lease }
+  setup-range (held e) f = record { opcode = refl; error = omega arith; number = f .number; lease = omega (arith, f .lease) }
   setup-range free f =
       either (λ (x : Served). OutcomeRange o (x .outcome)) (full (length (t .slots)) (t .roster) (count (holdings t)) (s .address))
       (record { opcode = refl; error = omega arith; number = lit< tt; lease = lit< tt })

@@ -1,9 +1,8 @@
 -- `options::serve_setup` meets its contract: found, full or granted. Assumes nothing.
-use Prim.Native.Nat.{ℕ, _-_}
+use Prim.Native.Nat.{_-_}
 use native.Mathlib.Omega.{arith}
-use mathlib.Core.Path.{_≡_, refl, sym, _∙_}
-use Rattle.model.specs.Clock.{ageAt}
-use Rattle.model.specs.Numbers.{Bytes, bigEndian}
+use mathlib.Core.Path.{refl, sym, _∙_}
+use Rattle.model.specs.Numbers.{Bytes}
 use Rattle.wire.specs.Records.{questionOf}
 use Rattle.entries.proofs.Laws.{found-is, nothing-is}
 use Rattle.options.proofs.OptionLaws as law
@@ -15,6 +14,7 @@ use Rattle.options.proofs.serve_setup.Lts as lts
 use Rattle.entries.proofs.find_asked.Reads as find-asked-reads
 use Rattle.entries.proofs.is_full.Reads as is-full-reads
 use Rattle.options.proofs.grant.Reads as grant-reads
+use Rattle.options.proofs.life_left.Reads as life-left-reads
 use Rattle.options.proofs.served.Reads as served-reads
 
 find-asked-requires : tie.Need-find-asked-requires
@@ -22,6 +22,9 @@ find-asked-requires c κs = search needs
 
 enum-known-e : tie.Need-enum-known-e
 enum-known-e c = search needs
+
+life-left-requires : tie.Need-life-left-requires
+life-left-requires c κs = search needs
 
 served-requires : tie.Need-served-requires
 served-requires c κs = search needs
@@ -54,11 +57,11 @@ same-length-2 c = search needs
 
 returns-2 : tie.Need-returns-2
 returns-2 c =
-    let z = c .before .before .before .before .before .before .before .before .before in
+    let z = c .before .before .before .before .before .before .before .before .before .before .before in
     let a = z .args in
-    let bytes : Bytes (a .t .now) = λ j. omega (arith, c .before .before .before .before .before .before .before .before .slice-known .given j) in
-    let f = found-is (a .t .now) (a .n) _ _ _ (sym (c .before .before .before .before .before .find-asked .ensures) ∙ c .before .before .before .e .given .1) in
-    law.setup-found (a .t .now) bytes (z .pre .0) (a .n) (z .pre .1) (a .s) (a .r) (questionOf (a .d .now) (a .q)) (a .o) (f .0) (f .1) _ (f .2) _ (c .served .ensures)
+    let bytes : Bytes (a .t .now) = λ j. omega (arith, c .before .before .before .before .before .before .before .before .before .before .slice-known .given j) in
+    let f = found-is (a .t .now) (a .n) _ _ _ (sym (c .before .before .before .before .before .before .before .find-asked .ensures) ∙ c .before .before .before .before .before .e .given .1) in
+    law.setup-found (a .t .now) bytes (z .pre .0) (a .n) (z .pre .1) (a .s) (a .r) (questionOf (a .d .now) (a .q)) (a .o) (f .0) (f .1) _ (f .2) _ (c .before .life-left .ensures) _ (c .served .ensures)
 
 same-length-3 : tie.Need-same-length-3
 same-length-3 c = search needs
@@ -77,6 +80,7 @@ serve-setup-spec =
     (tie.spec
     find-asked-requires
     enum-known-e
+    life-left-requires
     served-requires
     enum-told
     is-full-requires
