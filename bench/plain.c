@@ -2,7 +2,7 @@
  * plain.c - the three calls of llq.h in plain C11, straight on the lent bytes: the baseline of the benchmark.
  *
  * Every call tests the whole table first and judges every refusal before its first write. Nothing is allocated and nothing is
- * kept between calls. Comments in quotes are document 01's words.
+ * kept between calls. Comments in quotes are the words of documents 01 and 02.
  */
 #include <stdbool.h>
 #include <string.h>
@@ -403,6 +403,12 @@ static uint8_t *find_entry(const struct table *t, const uint8_t *asked, uint64_t
     return NULL;
 }
 
+/* The seconds that are left of an entry's lease: at least 1, as what has run out is freed first. */
+static inline uint32_t seconds_left(const uint8_t *slot, uint32_t running)
+{
+    return get32(slot + LEASE_AT) + get32(slot + STAMP_AT) - running;
+}
+
 static struct outcome set_up(struct table *t, uint8_t *asked, uint32_t running, uint64_t random, uint32_t lease)
 {
     uint8_t *lowest = NULL;
@@ -415,7 +421,7 @@ static struct outcome set_up(struct table *t, uint8_t *asked, uint32_t running, 
         } else if (same_address(slot + ADDRESS_AT, asked + ADDRESS_AT)) {
             held++;
             if (same_port_and_question(slot, asked))
-                return (struct outcome){NO_ERROR, get64(slot + NUMBER_AT), get32(slot + LEASE_AT)};
+                return (struct outcome){NO_ERROR, get64(slot + NUMBER_AT), seconds_left(slot, running)};
         }
     }
     size_t line = line_of(t, asked + ADDRESS_AT);
@@ -437,10 +443,11 @@ static struct outcome set_up(struct table *t, uint8_t *asked, uint32_t running, 
 static struct outcome respond(struct table *t, const uint8_t *asked, uint32_t running, uint64_t number, uint32_t lease)
 {
     uint8_t *slot = find_entry(t, asked, number);
-    if (!slot || get32(slot + LEASE_AT) != lease)
+    /* "between the remaining life and the granted one, ends included" */
+    if (!slot || lease < seconds_left(slot, running) || lease > get32(slot + LEASE_AT))
         return (struct outcome){NO_SUCH_LLQ, 0, 0};
     slot[0] = ESTABLISHED;
-    return (struct outcome){NO_ERROR, number, lease - (running - get32(slot + STAMP_AT))};
+    return (struct outcome){NO_ERROR, number, seconds_left(slot, running)};
 }
 
 static struct outcome refresh(struct table *t, const uint8_t *asked, uint32_t running, uint64_t number, uint32_t lease)

@@ -8,6 +8,7 @@ use crate::random::Random;
 use crate::script::{self, Datagram, Step};
 use crate::server::Server;
 use crate::tally::{self, Answer, Case, Tally};
+use crate::told::ToldLeases;
 
 const MARGIN: usize = 64;
 
@@ -49,6 +50,7 @@ pub struct Run<'a> {
     tally: Option<Tally>,
     /// The tally goes by the calls since an answered making.
     by_calls: bool,
+    told: ToldLeases,
     pub coverage: Coverage,
 }
 
@@ -83,6 +85,7 @@ impl<'a> Run<'a> {
             tested_table,
             tally: None,
             by_calls: false,
+            told: ToldLeases::default(),
             coverage: Coverage::default(),
         }
     }
@@ -95,9 +98,19 @@ impl<'a> Run<'a> {
         &self.right_table
     }
 
+    pub fn told(&self) -> &ToldLeases {
+        &self.told
+    }
+
     /// Carries out one step; says what is wrong, if anything is.
     pub fn step(&mut self, step: &Step) -> Outcome {
         self.coverage.calls += u64::from(step.is_call());
+        self.carry_out(step)?;
+        self.told.keep(self.tally.as_ref());
+        Ok(())
+    }
+
+    fn carry_out(&mut self, step: &Step) -> Outcome {
         match step {
             Step::Buffer { length, seed } => {
                 self.put_table(&script::buffer(*length, *seed));
@@ -127,6 +140,7 @@ impl<'a> Run<'a> {
         self.tested_table = Guarded::new(bytes, &mut self.random);
         self.tally = tally::table::read(bytes);
         self.by_calls = false;
+        self.told = ToldLeases::default();
     }
 
     fn make(&mut self, week: u32, second: u32, roster: &[u8]) -> Outcome {
@@ -295,6 +309,7 @@ impl<'a> Run<'a> {
             return;
         };
         let asked = tally::datagram::read(&sent.bytes).expect("answered, so read");
+        self.told.datagram(coverage, &asked, answer);
         let added: Vec<_> = after
             .holdings
             .iter()

@@ -43,10 +43,20 @@ pub enum Mark {
     SixteenLines,
     MadeOverEntries,
     Unsound,
+    SetupAgainPending,
+    SetupAgainEstablished,
+    LeaseOneUnder,
+    LeaseLowerEnd,
+    LeaseTold,
+    LeaseInside,
+    LeaseUpperEnd,
+    LeaseOneOver,
+    LeaseBeforeRefresh,
+    SetupBehindRefresh,
 }
 
 impl Mark {
-    pub const ALL: [(Mark, &'static str); 36] = [
+    pub const ALL: [(Mark, &'static str); 46] = [
         (Mark::StepZero, "step of 0"),
         (Mark::StepLongest, "step of +309,657,599"),
         (Mark::StepMostNegative, "step of -309,657,600"),
@@ -83,6 +93,18 @@ impl Mark {
         (Mark::SixteenLines, "16 roster lines"),
         (Mark::MadeOverEntries, "making over entries"),
         (Mark::Unsound, "unsound table refused"),
+        // Setups and responses that find an entry of age over 0.
+        (Mark::SetupAgainPending, "setup again, entry pending"),
+        (Mark::SetupAgainEstablished, "setup again, entry established"),
+        (Mark::LeaseOneUnder, "response one under what remains"),
+        (Mark::LeaseLowerEnd, "response with what remains"),
+        (Mark::LeaseTold, "response with a lease told before"),
+        (Mark::LeaseInside, "response with a lease never told"),
+        (Mark::LeaseUpperEnd, "response with the granted lease"),
+        (Mark::LeaseOneOver, "response one over the granted lease"),
+        // Responses with a lease told before a refresh, and not since.
+        (Mark::LeaseBeforeRefresh, "response told before a refresh"),
+        (Mark::SetupBehindRefresh, "setup behind a refresh"),
     ];
 }
 
@@ -186,6 +208,27 @@ impl fmt::Display for Coverage {
 #[cfg(test)]
 mod tests {
     use super::*;
+
+    #[test]
+    fn a_mark_that_was_missed_is_named() {
+        let mut met = Coverage {
+            calls: 1,
+            makings: [1; 10],
+            ticks: [1; 10],
+            datagrams: [1; 10],
+            errors: [1; 7],
+            cases: [1; Case::ALL.len()],
+            marks: [1; Mark::ALL.len()],
+        };
+        assert_eq!(met.missing(), Vec::<String>::new());
+        for (mark, name) in Mark::ALL {
+            met.marks[mark as usize] = 0;
+            assert_eq!(met.missing(), [name]);
+            met.mark(mark, false);
+            assert_eq!(met.missing(), [name]);
+            met.mark(mark, true);
+        }
+    }
 
     #[test]
     fn lists_are_in_order() {

@@ -7,6 +7,7 @@ mod world;
 use crate::random::Random;
 use crate::script::{Datagram, Step};
 use crate::tally::Tally;
+use crate::told::ToldLeases;
 use world::World;
 
 const CYCLE: i64 = 619_315_200;
@@ -90,7 +91,7 @@ impl List {
         };
         let (week, second) = reading_of(place);
         self.ahead.push(Step::Make { week, second, roster: self.world.roster(random) });
-        if random.percent(4) {
+        if random.percent(6) {
             self.run_the_count_up(place);
         }
         self.ahead.reverse();
@@ -98,7 +99,7 @@ impl List {
 
     /// Ticks that bring the running count close to its wrap.
     fn run_the_count_up(&mut self, mut place: i64) {
-        let mut left = 4_294_967_295 - self.random.between(0, 200);
+        let mut left = 4_294_967_295 - self.random.between(0, 80);
         while left > 0 {
             let step = left.min(309_657_599);
             place = (place + step) % CYCLE;
@@ -109,7 +110,7 @@ impl List {
     }
 
     /// The next step, or nothing at the list's end.
-    pub fn next(&mut self, tally: Option<&Tally>, table: &[u8]) -> Option<Step> {
+    pub fn next(&mut self, tally: Option<&Tally>, table: &[u8], told: &ToldLeases) -> Option<Step> {
         if let Some(step) = self.ahead.pop() {
             return Some(step);
         }
@@ -130,7 +131,7 @@ impl List {
                 }
                 for _ in 0..*random.pick(&[1, 1, 2]) {
                     let ticks = self.random.percent(40);
-                    let call = if ticks { self.tick(tally) } else { self.serve(tally) };
+                    let call = if ticks { self.tick(tally) } else { self.serve(tally, told) };
                     self.ahead.push(call);
                 }
                 return Some(step);
@@ -139,10 +140,11 @@ impl List {
         }
         let choice = self.random.below(100);
         Some(match choice {
-            0..3 => self.make(tally),
+            // A table that is to fill is seldom made anew.
+            0..3 if !self.world.filling || self.random.percent(30) => self.make(tally),
             3..18 => self.tick(tally),
             _ if !sound && choice < 60 => self.make(tally),
-            _ => self.serve(tally),
+            _ => self.serve(tally, told),
         })
     }
 
@@ -162,9 +164,10 @@ impl List {
         Step::Tick { week, second }
     }
 
-    fn serve(&mut self, tally: Option<&Tally>) -> Step {
+    fn serve(&mut self, tally: Option<&Tally>, told: &ToldLeases) -> Step {
         let (week, second) = self.reading(tally);
-        let message = message::message(&mut self.random, &self.world, tally);
+        let then = tally.map(|tally| aged(tally, (week, second)));
+        let message = message::message(&mut self.random, &self.world, then.as_ref(), told);
         let address = u128::from_be_bytes(message.from.0);
         Step::Serve(Datagram {
             week,
@@ -205,6 +208,16 @@ impl List {
         };
         reading_of((place + step).rem_euclid(CYCLE))
     }
+}
+
+/// The tally with the ages that its holdings have at a reading; what has run out is still there.
+fn aged(tally: &Tally, (week, second): (u32, u32)) -> Tally {
+    let mut then = tally.clone();
+    let step = (i64::from(week) * 604_800 + i64::from(second) - tally.place).rem_euclid(CYCLE);
+    if week < 1_024 && second < 604_800 && step < CYCLE / 2 {
+        then.holdings.iter_mut().for_each(|holding| holding.age += step as u64);
+    }
+    then
 }
 
 fn reading_of(place: i64) -> (u32, u32) {

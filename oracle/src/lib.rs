@@ -22,6 +22,7 @@ pub mod random;
 pub mod runs;
 pub mod script;
 pub mod server;
+pub mod told;
 pub mod variants;
 
 pub use calls::{make, serve, tick, Served, Ticked};

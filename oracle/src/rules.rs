@@ -85,9 +85,19 @@ pub trait Rules {
         entry.number() == number && Self::same_holding(entry, sender, question)
     }
 
-    /// A response repeats the granted lease.
-    fn response_lease(entry: Entry, sent: u32) -> bool {
-        entry.lease() == sent
+    /// A response sends a lease from the life that remains to the granted one, both ends included.
+    fn response_lease(entry: Entry, count: u32, sent: u32) -> bool {
+        (entry.left(count)..=entry.lease()).contains(&sent)
+    }
+
+    /// The lease that a setup is told of the entry it finds: the life that remains.
+    fn setup_tells(entry: Entry, count: u32) -> u32 {
+        entry.left(count)
+    }
+
+    /// The lease that a right response is told: the life that remains, whichever lease was sent.
+    fn response_tells(entry: Entry, count: u32, _sent: u32) -> u32 {
+        entry.left(count)
     }
 
     /// The entry that a refresh is for: an established one.
@@ -174,6 +184,7 @@ pub fn reserve<R: Rules>(table: &Table) -> i32 {
 #[cfg(test)]
 mod tests {
     use super::*;
+    use crate::table::{field, SlotRecord};
 
     #[test]
     fn leases() {
@@ -187,6 +198,35 @@ mod tests {
             (u32::MAX, 7_200),
         ] {
             assert_eq!(Law::granted(asked), granted);
+        }
+    }
+
+    /// Granted lease, age and lease sent, at a count that has wrapped.
+    #[test]
+    fn spans() {
+        for (granted, age, sent, right) in [
+            (3_600, 0, 3_600, true),
+            (3_600, 0, 3_599, false),
+            (3_600, 40, 3_559, false),
+            (3_600, 40, 3_560, true),
+            (3_600, 40, 3_580, true),
+            (3_600, 40, 3_600, true),
+            (3_600, 40, 3_601, false),
+            (60, 59, 0, false),
+            (60, 59, 1, true),
+            (60, 59, 60, true),
+            (60, 59, 61, false),
+            (7_200, 7_199, 1, true),
+            (60, 0, u32::MAX, false),
+        ] {
+            let mut record: SlotRecord = [0; 320];
+            let count = 5u32;
+            record[field::LEASE..][..4].copy_from_slice(&u32::to_be_bytes(granted));
+            record[field::STAMP..][..4].copy_from_slice(&count.wrapping_sub(age).to_be_bytes());
+            let entry = Entry(&record);
+            assert_eq!(Law::response_lease(entry, count, sent), right, "{granted} {age} {sent}");
+            assert_eq!(Law::setup_tells(entry, count), granted - age);
+            assert_eq!(Law::response_tells(entry, count, sent), granted - age);
         }
     }
 

@@ -60,7 +60,7 @@ pub fn random_lists(
         if let Some(trace) = &mut trace {
             trace.restart().expect("the trace can be written");
         }
-        while let Some(step) = list.next(run.tally(), run.table()) {
+        while let Some(step) = list.next(run.tally(), run.table(), run.told()) {
             if let Some(trace) = &mut trace {
                 trace.step(&step).expect("the trace can be written");
             }

@@ -50,7 +50,7 @@ fn setup<R: Rules>(
 ) -> Said {
     if let Some(slot) = table.find(|entry| R::setup_finds(entry, sender, question)) {
         let entry = table.entry(slot);
-        return Said::granted(entry.number(), entry.lease());
+        return Said::granted(entry.number(), R::setup_tells(entry, table.clock().count));
     }
     let held = rules::held::<R>(table, sender);
     let allowed = R::allowance(table, sender.address);
@@ -72,15 +72,16 @@ fn response<R: Rules>(
     number: LlqNumber,
     lease: u32,
 ) -> Said {
+    let count = table.clock().count;
     let found = table.find(|entry| {
-        R::response_finds(entry, sender, question, number) && R::response_lease(entry, lease)
+        R::response_finds(entry, sender, question, number) && R::response_lease(entry, count, lease)
     });
     let Some(slot) = found else {
         return Said::failed(error::NO_SUCH_LLQ, LlqNumber::NONE);
     };
     table.establish(slot);
     let entry = table.entry(slot);
-    Said::granted(entry.number(), entry.left(table.clock().count))
+    Said::granted(entry.number(), R::response_tells(entry, count, lease))
 }
 
 fn refresh<R: Rules>(

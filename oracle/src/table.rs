@@ -107,7 +107,7 @@ impl<'a> Entry<'a> {
         clock::age(count, self.stamp())
     }
 
-    /// Lease less age.
+    /// The life that remains: lease less age.
     pub fn left(self, count: u32) -> u32 {
         self.lease().saturating_sub(self.age(count))
     }

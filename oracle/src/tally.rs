@@ -51,6 +51,8 @@ pub struct Answer {
     pub reply: Vec<u8>,
     /// What became of each option of the reply.
     pub cases: Vec<Case>,
+    /// The holding that each of them found of its sender and question, as it was then.
+    pub found: Vec<Option<Holding>>,
 }
 
 /// What becomes of an option.
@@ -240,16 +242,21 @@ pub fn serve(
     }
     let freed = tally.move_clock(place);
     let mut options = Vec::new();
+    let mut found = Vec::new();
     match sent {
-        None => options.push((1, told(Case::Mismatch, 0, 0))),
+        None => {
+            found.push(None);
+            options.push((1, told(Case::Mismatch, 0, 0)));
+        }
         Some(sent) => {
             for (question, sent) in datagram.questions.iter().zip(&sent) {
+                found.push(tally.holding(from, question).map(|at| tally.holdings[at].clone()));
                 options.push((sent.opcode, tally.option(from, random, question, sent)));
             }
         }
     }
     let cases = options.iter().map(|(_, told)| told.case).collect();
-    Answer { number: 0, freed, reply: reply(&datagram, &options), cases }
+    Answer { number: 0, freed, reply: reply(&datagram, &options), cases, found }
 }
 
 /// What an option of the reply says.
@@ -330,8 +337,9 @@ impl Tally {
         let found = self.holding(from, question);
         match (sent.opcode, sent.number, found) {
             (1, 0, Some(at)) => {
+                // It is told what is left of the lease; nothing changes.
                 let holding = &self.holdings[at];
-                told(Case::Found, holding.number, holding.lease)
+                told(Case::Found, holding.number, holding.lease - holding.age)
             }
             (1, 0, None) => self.new_question(from, random, question, sent),
             (1, _, found) => self.response(found, sent),
@@ -368,10 +376,15 @@ impl Tally {
         told(if all_reserved { Case::GrantedFromReserve } else { Case::Granted }, number, lease)
     }
 
+    /// A response is right with a lease that is no longer than the granted one and shorter by
+    /// no more than the age. It is told what is left of the granted one.
     fn response(&mut self, found: Option<usize>, sent: &Sent) -> Told {
         if let Some(at) = found {
             let holding = &mut self.holdings[at];
-            if holding.number == sent.number && holding.lease == u64::from(sent.lease) {
+            let lease = u64::from(sent.lease);
+            let too_long = lease > holding.lease;
+            let too_short = lease + holding.age < holding.lease;
+            if holding.number == sent.number && !too_long && !too_short {
                 let again = holding.established;
                 holding.established = true;
                 let case = if again { Case::EstablishedAgain } else { Case::Established };
@@ -443,6 +456,49 @@ mod tests {
         assert_eq!(tally.move_clock(59), 1);
         assert_eq!(tally.holdings, [holding(61, 60)]);
         assert_eq!(tally.move_clock(309_657_599), 1);
+    }
+
+    /// Granted lease, age, lease sent and what the response is told, pending or established.
+    #[test]
+    fn a_response_keeps_between_what_is_left_and_what_was_granted() {
+        for (lease, age, sent, right) in [
+            (3_600, 0, 3_600, true),
+            (3_600, 0, 3_599, false),
+            (3_600, 40, 3_559, false),
+            (3_600, 40, 3_560, true),
+            (3_600, 40, 3_580, true),
+            (3_600, 40, 3_600, true),
+            (3_600, 40, 3_601, false),
+            (60, 59, 0, false),
+            (60, 59, 1, true),
+            (60, 59, 60, true),
+            (60, 59, 61, false),
+            (7_200, 7_199, 1, true),
+            (60, 0, u32::MAX, false),
+        ] {
+            for established in [false, true] {
+                let before = Holding { established, ..holding(lease, age) };
+                let mut tally = Tally {
+                    place: 0,
+                    count: 0,
+                    slots: 1,
+                    roster: vec![],
+                    holdings: vec![before.clone()],
+                };
+                let sent = Sent { version: 1, opcode: 1, error: 0, number: 1, lease: sent };
+                let told = tally.option(([0; 16], 0), 9, &before.question, &sent);
+                let said = (told.case.error(), told.number, told.lease);
+                assert_eq!(said, if right { (0, 1, lease - age) } else { (4, 0, 0) }, "{sent:?}");
+                let after = Holding { established: established || right, ..before };
+                assert_eq!(tally.holdings, std::slice::from_ref(&after));
+
+                // A setup is told what is left, whatever it asks for.
+                let sent = Sent { number: 0, ..sent };
+                let told = tally.option(([0; 16], 0), 9, &after.question, &sent);
+                assert_eq!((told.case, told.number, told.lease), (Case::Found, 1, lease - age));
+                assert_eq!(tally.holdings, [after]);
+            }
+        }
     }
 
     #[test]

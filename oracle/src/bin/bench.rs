@@ -48,13 +48,15 @@ enum Call {
     Tick,
     Refresh(usize),
     Setup,
+    Response,
     DamagedDatagram,
     DamagedTable,
 }
 
 use Call::*;
 
-const CALLS: [Call; 6] = [Tick, Refresh(1), Refresh(4), Setup, DamagedDatagram, DamagedTable];
+const CALLS: [Call; 7] =
+    [Tick, Refresh(1), Refresh(4), Setup, Response, DamagedDatagram, DamagedTable];
 
 impl Call {
     fn name(self) -> String {
@@ -63,6 +65,7 @@ impl Call {
             Refresh(1) => "refresh of 1 question".into(),
             Refresh(questions) => format!("refresh of {questions} questions"),
             Setup => "repeated setup of 1".into(),
+            Response => "response of 1 question".into(),
             DamagedDatagram => "damaged datagram (6)".into(),
             DamagedTable => "damaged table (1)".into(),
         }
@@ -232,10 +235,17 @@ fn work(call: Call, slots: usize) -> Work {
         work.filled(response, second);
     }
     assert_eq!(Oracle.tick(WEEK, NOW, &mut work.table).number, 0, "the clock moves on");
+    if let Setup = call {
+        // At age 0 what remains is the granted lease, which an archive from before that rule tells.
+        let refresh = work.from.query(REFRESH, &numbers, LEASE);
+        work.filled(refresh, NOW);
+    }
 
     let asked = &numbers[..call.questions()];
     work.datagram = match call {
         Setup => work.from.query(SETUP, &vec![0; asked.len()], LEASE),
+        // The granted lease, which every rule takes.
+        Response => work.from.query(SETUP, asked, LEASE),
         _ => work.from.query(REFRESH, asked, 3_600),
     };
     match call {

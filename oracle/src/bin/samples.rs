@@ -370,9 +370,11 @@ fn handshake(s: &mut Script) {
     s.make((7, 100), 4, &[]);
     assert_eq!(s.ask((7, 105), PANEL, 77, &[setup("a.example", 3_600)]), [granted(77, 3_600)]);
     s.dump();
-    // Another lease, number or name.
+    // A lease under what remains or over the granted one; another number or name.
     for wrong in [
-        response("a.example", 77, 3_590),
+        response("a.example", 77, 3_594),
+        response("a.example", 77, 3_601),
+        response("a.example", 77, 0),
         response("a.example", 78, 3_600),
         response("b.example", 77, 3_600),
     ] {
@@ -389,6 +391,16 @@ fn handshake(s: &mut Script) {
     s.dump();
     // Sent again: it stays established, and the lease left goes on falling.
     assert_eq!(s.ask((7, 125), PANEL, 1, &right), [granted(77, 3_580)]);
+    // Any lease from what remains to the granted one; what is told is counted from the granted one.
+    for (sent, told) in [
+        (3_579, no_such(0)),
+        (3_580, granted(77, 3_580)),
+        (3_585, granted(77, 3_580)),
+        (3_590, granted(77, 3_580)),
+        (3_601, no_such(0)),
+    ] {
+        assert_eq!(s.ask((7, 125), PANEL, 1, &[response("a.example", 77, sent)]), [told]);
+    }
 }
 
 /// Eight questions in one datagram, each option on the table that those before it left.
@@ -689,20 +701,41 @@ fn short_reply_buffers(s: &mut Script) {
     }
 }
 
-/// Setups sent again: the entry's number and granted lease, whatever is asked now.
+/// Setups sent again: the entry's number and the life that remains, whatever is asked now.
 fn repeated_setup(s: &mut Script) {
     s.make((80, 0), 4, &[]);
     assert_eq!(s.ask((80, 0), PANEL, 7, &[setup("a", 600)]), [granted(7, 600)]);
-    assert_eq!(s.ask((80, 9), PANEL, 8, &[setup("a", 600)]), [granted(7, 600)]);
-    assert_eq!(s.ask((80, 9), PANEL, 8, &[setup("a", 0)]), [granted(7, 600)]);
+    assert_eq!(s.ask((80, 9), PANEL, 8, &[setup("a", 600)]), [granted(7, 591)]);
+    assert_eq!(s.ask((80, 9), PANEL, 8, &[setup("a", 0)]), [granted(7, 591)]);
+    // A clock that goes back gives no time back.
+    assert_eq!(s.ask((80, 5), PANEL, 8, &[setup("a", 600)]), [granted(7, 591)]);
     assert_eq!(s.ask((80, 10), PANEL, 1, &[response("a", 7, 600)]), [granted(7, 590)]);
-    assert_eq!(s.ask((80, 11), PANEL, 8, &[setup("a", 90)]), [granted(7, 600)]);
+    assert_eq!(s.ask((80, 11), PANEL, 8, &[setup("a", 90)]), [granted(7, 589)]);
     s.dump();
     // Also at the limit.
     let told = s.ask((80, 12), PANEL, 8, &["b", "c", "d", "e", "a"].map(|name| setup(name, 90)));
-    assert_eq!(told, [granted(8, 90), granted(9, 90), granted(10, 90), FULL, granted(7, 600)]);
+    assert_eq!(told, [granted(8, 90), granted(9, 90), granted(10, 90), FULL, granted(7, 588)]);
+    assert_eq!(s.ask((80, 599), PANEL, 8, &[setup("a", 90)]), [granted(7, 1)]);
     // Run out, it is a new question.
     assert_eq!(s.ask((80, 600), PANEL, 8, &[setup("a", 90)]), [granted(8, 90)]);
+}
+
+/// A challenge that was lost: the second one tells what remains, and either lease may be sent back.
+fn lost_challenge(s: &mut Script) {
+    s.make((85, 0), 4, &[]);
+    for (second, text, number, sent) in [(0, "a", 7, 3_560), (100, "b", 8, 3_600)] {
+        let asked = [setup(text, 3_600)];
+        assert_eq!(s.ask((85, second), PANEL, 7, &asked), [granted(number, 3_600)]);
+        assert_eq!(s.ask((85, second + 40), PANEL, 9, &asked), [granted(number, 3_560)]);
+        s.dump();
+        let told = s.ask((85, second + 45), PANEL, 1, &[response(text, number, sent)]);
+        assert_eq!(told, [granted(number, 3_555)]);
+        s.dump();
+    }
+    // Whichever was sent, each runs out by its granted lease.
+    assert_eq!(s.tick((85, 3_599)), (0, 0));
+    assert_eq!(s.tick((85, 3_600)), (0, 1));
+    assert_eq!(s.tick((85, 3_700)), (0, 1));
 }
 
 /// Refreshes, ends, and refreshes of what is pending, ended or never was.
@@ -715,8 +748,17 @@ fn refresh_and_end(s: &mut Script) {
     assert_eq!(s.ask((90, 50), PANEL, 1, &[refresh("a", 7, 1)]), [granted(7, 60)]);
     assert_eq!(s.ask((90, 51), PANEL, 1, &[refresh("a", 7, u32::MAX)]), [granted(7, 7_200)]);
     s.dump();
+    // A late response is judged by the refreshed lease, and a setup is told what remains of it.
+    for told_before in [100, 99, 60] {
+        assert_eq!(s.ask((90, 51), PANEL, 1, &[response("a", 7, told_before)]), [no_such(0)]);
+    }
+    let told = s.ask((90, 52), PANEL, 1, &[setup("a", 100), response("a", 7, 7_200)]);
+    assert_eq!(told, [granted(7, 7_199), granted(7, 7_199)]);
+    let again = [setup("a", 100), refresh("a", 7, 7_200), setup("a", 100)];
+    let told = s.ask((90, 53), PANEL, 1, &again);
+    assert_eq!(told, [granted(7, 7_198), granted(7, 7_200), granted(7, 7_200)]);
     for wrong in [refresh("a", 8, 100), refresh("a", 0, 100), refresh("b", 7, 100)] {
-        assert_eq!(s.ask((90, 52), PANEL, 1, &[wrong]).pop().map(|told| told.error), Some(4));
+        assert_eq!(s.ask((90, 54), PANEL, 1, &[wrong]).pop().map(|told| told.error), Some(4));
     }
     assert_eq!(s.tick((90, 110)), (0, 0));
     assert_eq!(s.ask((90, 120), PANEL, 9, &[setup("b", 100)]), [granted(9, 100)]);
@@ -802,7 +844,7 @@ fn names(s: &mut Script) {
     let told = s.ask((130, 0), PANEL, 7, &[setup("MiXed.EXAMPLE", 100)]);
     assert_eq!(told, [granted(7, 100)]);
     s.dump();
-    assert_eq!(s.ask((130, 1), PANEL, 8, &[setup("mixed.example", 90)]), [granted(7, 100)]);
+    assert_eq!(s.ask((130, 1), PANEL, 8, &[setup("mixed.example", 90)]), [granted(7, 99)]);
     assert_eq!(s.ask((130, 2), PANEL, 1, &[response("mIXED.eXample", 7, 100)]), [granted(7, 98)]);
     assert_eq!(s.ask((130, 3), PANEL, 1, &[refresh("MIXED.EXAMPLE", 7, 100)]), [granted(7, 100)]);
     let told = s.ask((130, 4), PANEL, 14, &[setup("AZ", 90), setup("az", 90)]);
@@ -926,7 +968,7 @@ fn sixty_four_slots(s: &mut Script) {
 type List = (&'static str, fn(&mut Script));
 
 /// The lists in their order.
-const LISTS: [List; 24] = [
+const LISTS: [List; 25] = [
     ("nothing made", nothing_made),
     ("W11", w11),
     ("handshake", handshake),
@@ -942,6 +984,7 @@ const LISTS: [List; 24] = [
     ("refused datagrams", refused_datagrams),
     ("short reply buffers", short_reply_buffers),
     ("repeated setup", repeated_setup),
+    ("lost challenge", lost_challenge),
     ("refresh and end", refresh_and_end),
     ("another sender", another_sender),
     ("numbers", numbers),

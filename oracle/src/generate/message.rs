@@ -3,6 +3,7 @@
 use super::world::{name_of, other_case, World, LEASES};
 use crate::random::Random;
 use crate::tally::{From, Holding, Tally};
+use crate::told::{OfEntry, ToldLeases};
 
 /// A message before it is written out.
 #[derive(Clone)]
@@ -85,7 +86,13 @@ pub struct Message {
     pub bytes: Vec<u8>,
 }
 
-pub fn message(random: &mut Random, world: &World, tally: Option<&Tally>) -> Message {
+/// A datagram on a tally with the ages that it will find.
+pub fn message(
+    random: &mut Random,
+    world: &World,
+    tally: Option<&Tally>,
+    told: &ToldLeases,
+) -> Message {
     let holdings = tally.map_or(&[][..], |tally| &tally.holdings);
     let from = if !holdings.is_empty() && random.percent(if world.filling { 20 } else { 50 }) {
         let holding = random.pick(holdings);
@@ -94,7 +101,7 @@ pub fn message(random: &mut Random, world: &World, tally: Option<&Tally>) -> Mes
         world.sender(random)
     };
     let host_number = world.host_number(random, tally, from);
-    let mut draft = draft(random, world, holdings, from, host_number);
+    let mut draft = draft(random, world, holdings, told, from, host_number);
     if random.percent(3) {
         draft = around_1472(random);
     }
@@ -122,6 +129,7 @@ fn draft(
     random: &mut Random,
     world: &World,
     holdings: &[Holding],
+    told: &ToldLeases,
     from: From,
     host_number: u64,
 ) -> Draft {
@@ -165,7 +173,7 @@ fn draft(
             }
             // The slot and number of an ended question, asked for in the same message.
             _ if ended => (new_question(random, world), option(1, 1, 0, 0, 100)),
-            _ => asked(random, world, holdings, &own, host_number),
+            _ => asked(random, world, holdings, told, &own, host_number),
         };
         ended = sent[..6] == [0, 1, 0, 2, 0, 0] && sent[14..] == [0; 4];
         if sent[..14] == [0, 1, 0, 1, 0, 0, 0, 0, 0, 0, 0, 0, 0, 0] {
@@ -188,6 +196,7 @@ fn asked(
     random: &mut Random,
     world: &World,
     holdings: &[Holding],
+    told: &ToldLeases,
     own: &[Holding],
     host_number: u64,
 ) -> (Vec<u8>, Vec<u8>) {
@@ -208,24 +217,19 @@ fn asked(
     let granted = holding.lease as u32;
     match choice {
         45..50 => (same, option(1, 1, 0, 0, lease)),
-        50..70 => match random.below(16) {
-            0 => (same, option(1, 1, 0, holding.number, granted + 1)),
-            1 => (same, option(1, 1, 0, holding.number, granted - 1)),
-            2 => (same, option(1, 1, 0, holding.number, granted - holding.age as u32)),
-            3 => (same, option(1, 1, 0, holding.number, *random.pick(&LEASES))),
-            6 => {
-                let lease = granted + *random.pick(&[256, 65_536, 1 << 31]);
-                (same, option(1, 1, 0, holding.number, lease))
+        50..70 => {
+            let lease = response_lease(random, holding, told.of(holding.number));
+            match random.below(16) {
+                0 => {
+                    let number =
+                        holding.number.wrapping_add(*random.pick(&[1, 1 << 16, 1 << 32, 1 << 63]));
+                    (same, option(1, 1, 0, number, granted))
+                }
+                1 => (same, option(1, 1, 0, random.pick(holdings).number, granted)),
+                2 => (new_question(random, world), option(1, 1, 0, holding.number, granted)),
+                _ => (same, option(1, 1, 0, holding.number, lease)),
             }
-            4 => {
-                let number =
-                    holding.number.wrapping_add(*random.pick(&[1, 1 << 16, 1 << 32, 1 << 63]));
-                (same, option(1, 1, 0, number, granted))
-            }
-            5 => (same, option(1, 1, 0, random.pick(holdings).number, granted)),
-            7 => (new_question(random, world), option(1, 1, 0, holding.number, granted)),
-            _ => (same, option(1, 1, 0, holding.number, granted)),
-        },
+        }
         70..90 => {
             let lease = if random.percent(25) { 0 } else { lease };
             match random.below(16) {
@@ -251,6 +255,27 @@ fn asked(
             let number = *random.pick(&[0, holding.number]);
             (same, option(fields[0], fields[1], fields[2], number, granted))
         }
+    }
+}
+
+/// The lease of a response: at the ends of the span or beside them, inside it, or one told before.
+fn response_lease(random: &mut Random, holding: &Holding, told: &OfEntry) -> u32 {
+    let upper = holding.lease as u32;
+    let lower = holding.lease.saturating_sub(holding.age) as u32;
+    let mut since = told.since.clone();
+    if since.iter().any(|&lease| lower < lease && lease < upper) {
+        since.retain(|&lease| lower < lease && lease < upper);
+    }
+    match random.below(16) {
+        0 => lower.saturating_sub(1),
+        1..3 => lower,
+        3..5 => random.between(lower.into(), upper.into()) as u32,
+        5..9 if !since.is_empty() => *random.pick(&since),
+        9..11 if !told.before.is_empty() => *random.pick(&told.before),
+        11 => upper + 1,
+        12 => upper + *random.pick(&[256, 65_536, 1 << 31]),
+        13 => *random.pick(&LEASES),
+        _ => upper,
     }
 }
 

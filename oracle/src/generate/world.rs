@@ -184,6 +184,8 @@ impl World {
     /// A roster that keeps the rules, on the edge of them more often than not.
     fn right_roster(&self, random: &mut Random) -> Vec<Line> {
         let count = match random.below(10) {
+            // Nothing reserved, so that all slots can be taken.
+            _ if self.filling && random.percent(40) => 0,
             0..2 => 0,
             2 => 16,
             _ => random.below(self.addresses.len().min(16) + 1),

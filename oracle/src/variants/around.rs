@@ -2,6 +2,7 @@
 
 use super::Named;
 use crate::calls::{self, Served, Ticked};
+use crate::rules::{Law, Rules};
 use crate::server::{Oracle, Server};
 
 /// A datagram with all that is lent with it.
@@ -115,6 +116,45 @@ fn kinds(table: &[u8]) -> Vec<u8> {
         .zip(table.get(313..).unwrap_or(&[]).chunks(320))
         .map(|(_, slot)| slot[0])
         .collect()
+}
+
+fn number(bytes: &[u8]) -> u32 {
+    bytes.iter().fold(0, |number, &byte| number << 8 | u32::from(byte))
+}
+
+/// The running count.
+fn count(table: &[u8]) -> u32 {
+    table.get(5..9).map_or(0, number)
+}
+
+/// The setups that found or made an entry: the lease each asked, and its option of the reply.
+fn setups<'a>(
+    call: &Call,
+    served: Served,
+    reply: &'a mut [u8],
+) -> impl Iterator<Item = (u32, &'a mut [u8])> {
+    let mut sent = Vec::new();
+    if served.number == 0 {
+        let opt = (0..call.datagram[5]).fold(12, |at, _| question_end(call.datagram, at));
+        let mut left = &call.datagram[opt + 11..];
+        while !left.is_empty() {
+            let (head, rest) = left.split_at(4);
+            let (body, rest) = rest.split_at(number(&head[2..]) as usize);
+            if head == [0, 1, 0, 18] {
+                sent.push((body[6..14] == [0; 8], number(&body[14..])));
+            }
+            left = rest;
+        }
+    }
+    options(served, reply)
+        .zip(sent)
+        .filter(|(told, (setup, _))| *setup && told[6..10] == [0, 1, 0, 0])
+        .map(|(told, (_, asked))| (asked, told))
+}
+
+/// The entry with the number that an option of the reply tells.
+fn entry_told<'a>(table: &'a mut [u8], told: &[u8]) -> Option<&'a mut [u8]> {
+    table[313..].chunks_mut(320).find(|slot| slot[0] != 4 && slot[19..27] == told[10..18])
 }
 
 /// Serves question one and copies its option for the rest.
@@ -343,58 +383,42 @@ pub fn all() -> Vec<Named> {
             }
             Served { number: 0, length: whole as u32 }
         }),
-        ("ServeSetupAgainTellsRest", |call, table, reply| {
-            // A setup that finds an entry is told lease less age.
-            let before = table.to_vec();
-            let served = call.serve(table, reply);
-            if served.number == 0 && before.len() == table.len() {
-                let count = u32::from_be_bytes([table[5], table[6], table[7], table[8]]);
-                let slots: Vec<Vec<u8>> = table[313..].chunks(320).map(<[u8]>::to_vec).collect();
-                options(served, reply).for_each(|option| {
-                    let found =
-                        slots.iter().find(|slot| slot[0] == 5 && slot[19..27] == option[10..18]);
-                    if let (Some(slot), [0, 1, 0, 0]) = (found, &option[6..10]) {
-                        let stamp = u32::from_be_bytes([slot[31], slot[32], slot[33], slot[34]]);
-                        let lease = u32::from_be_bytes([slot[27], slot[28], slot[29], slot[30]]);
-                        let rest = lease - count.wrapping_sub(stamp);
-                        option[18..].copy_from_slice(&rest.to_be_bytes());
-                    }
-                });
-            }
-            served
-        }),
         ("ServeSetupAgainRestamps", |call, table, reply| {
-            let before = kinds(table);
             let served = call.serve(table, reply);
-            if served.number == 0 {
-                let count = table[5..9].to_vec();
-                let told: Vec<Vec<u8>> =
-                    options(served, reply).map(|option| option.to_vec()).collect();
-                for (slot, kind) in before.iter().enumerate() {
-                    let record = &mut table[313 + 320 * slot..][..320];
-                    let told = told
-                        .iter()
-                        .any(|told| told[6..10] == [0, 1, 0, 0] && told[10..18] == record[19..27]);
-                    if *kind == 5 && record[0] == 5 && told {
-                        record[31..35].copy_from_slice(&count);
-                    }
+            for (_, told) in setups(call, served, reply) {
+                let now = count(table).to_be_bytes();
+                if let Some(entry) = entry_told(table, told) {
+                    entry[31..35].copy_from_slice(&now);
                 }
             }
             served
         }),
-        ("ServeResponseTellsGrantedLease", |call, table, reply| {
+        ("ServeSetupAgainGrantsAnew", |call, table, reply| {
+            // The entry found has the asked lease from now on, as by a refresh.
             let served = call.serve(table, reply);
-            if served.number == 0 {
-                let slots: Vec<Vec<u8>> = table[313..].chunks(320).map(<[u8]>::to_vec).collect();
-                options(served, reply).filter(|option| option[6..10] == [0, 1, 0, 0]).for_each(
-                    |option| {
-                        if let Some(slot) =
-                            slots.iter().find(|slot| slot[0] == 6 && slot[19..27] == option[10..18])
-                        {
-                            option[18..].copy_from_slice(&slot[27..31]);
-                        }
-                    },
-                );
+            for (asked, told) in setups(call, served, reply) {
+                let now = count(table).to_be_bytes();
+                let lease = Law::granted(asked).to_be_bytes();
+                if let Some(entry) = entry_told(table, told) {
+                    entry[27..31].copy_from_slice(&lease);
+                    entry[31..35].copy_from_slice(&now);
+                    told[18..].copy_from_slice(&lease);
+                }
+            }
+            served
+        }),
+        ("ServeSetupAgainTellsBeforeTheClock", |call, table, reply| {
+            // The life that remained at the last call.
+            let then = count(table);
+            let served = call.serve(table, reply);
+            for (_, told) in setups(call, served, reply) {
+                if let Some(entry) = entry_told(table, told) {
+                    let (lease, stamp) = (number(&entry[27..31]), number(&entry[31..35]));
+                    // Granted or refreshed by this call, it has no such life.
+                    let left = lease.saturating_sub(then.wrapping_sub(stamp));
+                    let left = left.max(number(&told[18..]));
+                    told[18..].copy_from_slice(&left.to_be_bytes());
+                }
             }
             served
         }),

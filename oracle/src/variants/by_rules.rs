@@ -81,10 +81,41 @@ wrong! {
     /// A setup does not find established entries.
     SetupFindsPendingOnly
 
-    // Response and refresh.
+    // The lease that a response sends, beside the life that remains and the granted lease.
     ResponseAnyLease
+    /// Its upper 16 bits are not looked at.
     ResponseLeaseOf16Bits
+    /// No longer than the granted lease, 0 too.
     ResponseLeaseAtMost
+    /// No longer than the granted lease, but not 0.
+    ResponseLeaseNoLowerEnd
+    /// No shorter than what remains.
+    ResponseLeaseNoUpperEnd
+    ResponseLeaseGrantedOnly
+    ResponseLeaseRemainingOnly
+    /// What remains is too short already.
+    ResponseLeaseLowerEndOpen
+    /// The granted lease is too long already.
+    ResponseLeaseUpperEndOpen
+    /// One second under what remains is right too.
+    ResponseLeaseOneUnder
+    /// One second over the granted lease is right too.
+    ResponseLeaseOneOver
+    /// The span of a pending entry; of an established one the granted lease alone.
+    ResponseSpanPendingOnly
+    /// The span of an established entry; of a pending one the granted lease alone.
+    ResponseSpanEstablishedOnly
+
+    // The lease that a setup or response is told of an entry.
+    SetupTellsGranted
+    SetupTellsGrantedIfPending
+    SetupTellsGrantedIfEstablished
+    ResponseTellsGranted
+    ResponseTellsSent
+    /// Age is counted from the lease sent.
+    ResponseTellsSentLessAge
+
+    // Response and refresh.
     ResponseAnyNumber
     ResponseNumberLowHalf
     ResponseNumberHighHalf
@@ -245,12 +276,41 @@ impl Rules for Bent {
         }
     }
 
-    fn response_lease(entry: Entry, sent: u32) -> bool {
+    fn response_lease(entry: Entry, count: u32, sent: u32) -> bool {
+        let (left, granted) = (entry.left(count), entry.lease());
         match now() {
             ResponseAnyLease => true,
-            ResponseLeaseOf16Bits => entry.lease() as u16 == sent as u16,
-            ResponseLeaseAtMost => sent <= entry.lease(),
-            _ => Law::response_lease(entry, sent),
+            ResponseLeaseOf16Bits => Law::response_lease(entry, count, sent & 0xFFFF),
+            ResponseLeaseAtMost => sent <= granted,
+            ResponseLeaseNoLowerEnd => 0 < sent && sent <= granted,
+            ResponseLeaseNoUpperEnd => left <= sent,
+            ResponseLeaseGrantedOnly => sent == granted,
+            ResponseLeaseRemainingOnly => sent == left,
+            ResponseLeaseLowerEndOpen => left < sent && sent <= granted,
+            ResponseLeaseUpperEndOpen => left <= sent && sent < granted,
+            ResponseLeaseOneUnder => left - 1 <= sent && sent <= granted,
+            ResponseLeaseOneOver => left <= sent && sent <= granted + 1,
+            ResponseSpanPendingOnly if entry.is_established() => sent == granted,
+            ResponseSpanEstablishedOnly if !entry.is_established() => sent == granted,
+            _ => Law::response_lease(entry, count, sent),
+        }
+    }
+
+    fn setup_tells(entry: Entry, count: u32) -> u32 {
+        match now() {
+            SetupTellsGranted => entry.lease(),
+            SetupTellsGrantedIfPending if !entry.is_established() => entry.lease(),
+            SetupTellsGrantedIfEstablished if entry.is_established() => entry.lease(),
+            _ => Law::setup_tells(entry, count),
+        }
+    }
+
+    fn response_tells(entry: Entry, count: u32, sent: u32) -> u32 {
+        match now() {
+            ResponseTellsGranted => entry.lease(),
+            ResponseTellsSent => sent,
+            ResponseTellsSentLessAge => sent.wrapping_sub(entry.age(count)),
+            _ => Law::response_tells(entry, count, sent),
         }
     }
 
