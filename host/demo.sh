@@ -29,7 +29,7 @@ for _ in $(seq 50); do
     sleep 0.1
 done
 
-echo "--- a panel at 127.0.0.1 asks for _arrivals._udp.museum.example and keeps its entry"
+echo "--- a panel at 127.0.0.1 asks for _arrivals._udp.museum.example, asks again as if the challenge had been lost, and keeps its entry"
 ./panel --keep 127.0.0.1 $port _arrivals._udp.museum.example
 echo "--- the table, as llqd --show prints it"
 ./llqd --show "$work/table"

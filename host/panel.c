@@ -1,6 +1,6 @@
 /*
- * panel: a panel's handshake with an LLQ server (RFC 8764): setup, response, refresh, and the end of its entry.
- * One line a step. What is not a reply to what was sent is ignored, as if it had not come.
+ * panel: a panel's handshake with an LLQ server (RFC 8764): setup, the setup again as where its challenge was lost, response,
+ * refresh, and the end of its entry. One line a step. What is not a reply to what was sent is ignored, as if it had not come.
  */
 #include <arpa/inet.h>
 #include <errno.h>
@@ -20,6 +20,7 @@
 #include "../include/llq.h"
 
 enum { SETUP = 1, REFRESH = 2, PTR = 12, IN = 1, OPT = 41 };
+enum { AGAIN = 2, LEFT_LEAST = 20 }; /* seconds until the setup is sent again; that must be left for it, lest its entry ends meanwhile */
 enum { HEADER = 12, OPT_FIXED = 11, LLQ_DATA = 18, MESSAGE_MOST = 1472, NAME_MOST = 255 };
 
 struct llq {
@@ -53,6 +54,19 @@ static uint8_t *put(uint8_t *at, uint64_t value, int width)
     return at + width;
 }
 
+/* Numbers one after the other, each of its width in bytes. */
+struct field {
+    uint64_t value;
+    int width;
+};
+
+static uint8_t *put_fields(uint8_t *at, const struct field *fields, size_t count)
+{
+    for (size_t i = 0; i < count; i++)
+        at = put(at, fields[i].value, fields[i].width);
+    return at;
+}
+
 static uint64_t get(const uint8_t *at, int width)
 {
     uint64_t value = 0;
@@ -83,31 +97,21 @@ static void set_question(const char *name)
         at += label;
         rest += label + (rest[label] == '.');
     }
-    at = put(at, 0, 1);
-    at = put(at, PTR, 2);
-    at = put(at, IN, 2);
+    at = put_fields(at, (struct field[]){{0, 1}, {PTR, 2}, {IN, 2}}, 3);
     question_length = (size_t)(at - question);
 }
 
 /* One question with one LLQ option. */
 static size_t write_query(uint8_t *message, uint16_t id, struct llq llq)
 {
-    uint8_t *at = put(message, id, 2);
-    at = put(at, 0x0100, 2);
-    at = put(at, 0x0001000000000001, 8);
+    const struct field header[] = {{id, 2}, {0x0100, 2}, {0x0001000000000001, 8}};
+    const struct field opt[] = {{0, 1}, {OPT, 2}, {MESSAGE_MOST, 2}, {0, 4}, {4 + LLQ_DATA, 2}};
+    /* code, length, version, opcode, error, number, lease */
+    const struct field option[] = {{1, 2}, {LLQ_DATA, 2}, {1, 2}, {llq.opcode, 2}, {0, 2}, {llq.number, 8}, {llq.lease, 4}};
+    uint8_t *at = put_fields(message, header, 3);
     memcpy(at, question, question_length);
-    at = put(at + question_length, 0, 1);
-    at = put(at, OPT, 2);
-    at = put(at, MESSAGE_MOST, 2);
-    at = put(at, 0, 4);
-    at = put(at, 4 + LLQ_DATA, 2);
-    at = put(at, 1, 2);
-    at = put(at, LLQ_DATA, 2);
-    at = put(at, 1, 2);
-    at = put(at, llq.opcode, 2);
-    at = put(at, 0, 2);
-    at = put(at, llq.number, 8);
-    at = put(at, llq.lease, 4);
+    at = put_fields(at + question_length, opt, 5);
+    at = put_fields(at, option, 7);
     return (size_t)(at - message);
 }
 
@@ -165,35 +169,8 @@ static uint16_t fresh_id(void)
     return id;
 }
 
-/*
- * Send and wait for the reply. RFC 8764, section 5.1: a setup and a response are sent again after 2 s and 4 s more, and the
- * server is down 8 s later. Section 7.1: a refresh is not sent again before 90 % of its lease has gone, so here it is sent once.
- */
-static struct llq ask(int s, struct llq sent, const char *what)
-{
-    static const int waits[] = {2000, 4000, 8000};
-    uint8_t message[MESSAGE_MOST], reply[65535];
-    uint16_t id = fresh_id();
-    size_t length = write_query(message, id, sent);
-    for (int try = sent.opcode == SETUP ? 0 : 2; try < 3; try++) {
-        /* a port that nobody has is told of by the next send: the error is taken off, and it is sent */
-        if (send(s, message, length, 0) < 0 && (errno != ECONNREFUSED || send(s, message, length, 0) < 0))
-            die("%s port %s: %s", address, port, strerror(errno));
-        for (long end = milliseconds() + waits[try], left; (left = end - milliseconds()) > 0;) {
-            struct pollfd ready = {.fd = s, .events = POLLIN};
-            struct llq back;
-            if (poll(&ready, 1, (int)left) < 1)
-                continue;
-            ssize_t got = recv(s, reply, sizeof reply, MSG_DONTWAIT);
-            if (got >= 0 && read_reply(reply, (size_t)got, id, sent, &back))
-                return back;
-        }
-    }
-    die("no reply to the %s from %s port %s", what, address, port);
-}
-
 /* Ends in words if the server refused: RFC 8764's error numbers. */
-static void granted(struct llq back, const char *what)
+static struct llq granted(struct llq back, const char *what)
 {
     static const char *const words[] = {"", "", "the answer does not change, an LLQ is not needed (static)", "format error", "no such LLQ",
                                         "the server does not speak version 1", "the server gives no reason (unknown error)"};
@@ -203,6 +180,47 @@ static void granted(struct llq back, const char *what)
         die("%s refused: error %u, which RFC 8764 does not have", what, back.error);
     if (back.error)
         die("%s refused: %s", what, words[back.error]);
+    return back;
+}
+
+/*
+ * Send and wait for the reply. RFC 8764, section 5.1: a setup and a response are sent again after 2 s and 4 s more, and the
+ * server is down 8 s later. Section 7.1: a refresh is not sent again before 90 % of its lease has gone, so here it is sent once.
+ */
+static struct llq ask(int s, struct llq sent, const char *what)
+{
+    static const int waits[] = {AGAIN * 1000, 4000, 8000};
+    uint8_t message[MESSAGE_MOST], reply[65535];
+    uint16_t id = fresh_id();
+    size_t length = write_query(message, id, sent);
+    for (int try = sent.opcode == SETUP ? 0 : 2; try < 3; try++) {
+        /* a port that nobody has is told of by the next send: the error is taken off, and it is sent */
+        if (send(s, message, length, 0) < 0 && (errno != ECONNREFUSED || send(s, message, length, 0) < 0))
+            die("%s port %s: %s", address, port, strerror(errno));
+        for (long end = milliseconds() + waits[try], left; (left = end - milliseconds()) > 0;) {
+            struct pollfd ready = {.fd = s, .events = POLLIN};
+            struct llq back = {0};
+            if (poll(&ready, 1, (int)left) < 1)
+                continue;
+            ssize_t got = recv(s, reply, sizeof reply, MSG_DONTWAIT);
+            if (got >= 0 && read_reply(reply, (size_t)got, id, sent, &back))
+                return granted(back, what);
+        }
+    }
+    die("no reply to the %s from %s port %s", what, address, port);
+}
+
+/* The setup again, as if its challenge had been lost: it finds its entry, so it is told that number and what is left. */
+static struct llq ask_again(int s, struct llq setup, struct llq challenge)
+{
+    sleep(AGAIN);
+    struct llq again = ask(s, setup, "setup again");
+    if (again.number != challenge.number)
+        die("setup again: another number, %016" PRIx64, again.number);
+    if (again.lease > challenge.lease)
+        die("setup again: %" PRIu32 " s left, more than before", again.lease);
+    printf("setup again after %d s: the same number, %" PRIu32 " s left\n", AGAIN, again.lease);
+    return again;
 }
 
 /* ---- the socket and the options */
@@ -247,10 +265,11 @@ static uint32_t number_of(const char *text, const char *what, unsigned long most
 
 static void usage(FILE *out)
 {
-    fputs("usage: panel [--local-address A] [--local-port P] [--lease SECONDS] [--keep] ADDRESS PORT NAME\n"
+    fputs("usage: panel [--local-address A] [--local-port P] [--lease SECONDS] [--once] [--keep] ADDRESS PORT NAME\n"
           "  --local-address  send from this address\n"
           "  --local-port     send from this port; an entry belongs to it, so a panel that starts again finds its own\n"
           "  --lease          seconds to ask for (3600); the server grants 60 to 7200\n"
+          "  --once           send the setup once; without this it is sent again after 2 s, as if its challenge had been lost\n"
           "  --keep           leave the entry in the server's table until its lease runs out\n"
           "  -h, --help; --version\n", out);
 }
@@ -258,15 +277,16 @@ static void usage(FILE *out)
 int main(int argc, char **argv)
 {
     static const struct option options[] = {{"local-address", 1, 0, 'a'}, {"local-port", 1, 0, 'p'}, {"lease", 1, 0, 'l'},
-                                            {"keep", 0, 0, 'k'}, {"help", 0, 0, 'h'}, {"version", 0, 0, 'V'}, {0, 0, 0, 0}};
+                                            {"once", 0, 0, 'o'}, {"keep", 0, 0, 'k'}, {"help", 0, 0, 'h'}, {"version", 0, 0, 'V'}, {0}};
     const char *local_address = NULL, *local_port = NULL;
     uint32_t lease = 3600;
-    int keep = 0;
+    int once = 0, keep = 0;
     for (int o; (o = getopt_long(argc, argv, "h", options, NULL)) != -1;)
         switch (o) {
         case 'a': local_address = optarg; break;
         case 'p': number_of(local_port = optarg, "--local-port", 65535); break;
         case 'l': lease = number_of(optarg, "--lease", UINT32_MAX); break;
+        case 'o': once = 1; break;
         case 'k': keep = 1; break;
         case 'h': usage(stdout); return 0;
         case 'V': puts("panel " LLQ_VERSION); return 0;
@@ -280,20 +300,19 @@ int main(int argc, char **argv)
     number_of(port = argv[optind + 1], "port", 65535);
     set_question(argv[optind + 2]);
     int s = open_socket(local_address, local_port);
-    struct llq challenge = ask(s, (struct llq){SETUP, 0, 0, lease}, "setup");
-    granted(challenge, "setup");
+    struct llq setup = {SETUP, 0, 0, lease}, challenge = ask(s, setup, "setup");
     printf("setup: granted number %016" PRIx64 ", lease %" PRIu32 " s\n", challenge.number, challenge.lease);
+    if (!once && challenge.lease >= LEFT_LEAST)
+        challenge = ask_again(s, setup, challenge);
     struct llq answer = ask(s, (struct llq){SETUP, 0, challenge.number, challenge.lease}, "response");
-    granted(answer, "response");
     printf("response: established, %" PRIu32 " s left\n", answer.lease);
-    struct llq renewed = ask(s, (struct llq){REFRESH, 0, challenge.number, challenge.lease}, "refresh");
-    granted(renewed, "refresh");
+    struct llq renewed = ask(s, (struct llq){REFRESH, 0, challenge.number, lease}, "refresh");
     printf("refresh: renewed, lease %" PRIu32 " s\n", renewed.lease);
     if (keep) {
         printf("kept: the entry stays for %" PRIu32 " s\n", renewed.lease);
-        return fflush(stdout) != 0;
+    } else {
+        ask(s, (struct llq){REFRESH, 0, challenge.number, 0}, "end");
+        puts("end: the entry is gone");
     }
-    granted(ask(s, (struct llq){REFRESH, 0, challenge.number, 0}, "end"), "end");
-    puts("end: the entry is gone");
     return fflush(stdout) != 0;
 }

@@ -28,7 +28,7 @@
 #include <stdint.h>
 
 /* Of the header, the archive and the host together. */
-#define LLQ_VERSION "0.2.0"
+#define LLQ_VERSION "0.3.0"
 
 #ifdef __cplusplus
 extern "C" {
@@ -83,6 +83,11 @@ struct llq_ticked llq_tick(uint32_t week, uint32_t second, uint8_t *table, size_
  * address_high and address_low are the two halves of the sender's 16-byte address, port its UDP port. `random` is where the
  * search for an unused LLQ number starts. On LLQ_DONE send `length` bytes of `reply` to the sender; bytes of `reply` past
  * them keep what they held. Refused: table and reply keep every byte, and nothing is to be sent.
+ *
+ * The life that remains of an entry is its granted lease (60 to 7200 s) less its age. A setup that finds its entry, pending or
+ * established, is told the entry's number and the life that remains. A response is right with any lease from the life that
+ * remains to the granted lease, both included, and is told the life that remains. So what a challenge told stays a right answer
+ * for as long as the entry stays and is not refreshed.
  */
 struct llq_served llq_serve(uint32_t week, uint32_t second, uint64_t address_high, uint64_t address_low, uint16_t port,
                             uint64_t random, const uint8_t *datagram, size_t datagram_len, uint8_t *table, size_t table_len,

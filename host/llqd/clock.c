@@ -76,10 +76,12 @@ static int64_t step_to(const struct table *table, int64_t seconds)
  * under a clock that was set wrong when the host started, and then its own clock is wrong too; its file's time is not, once
  * the system's clock was set right. A table that is ahead of the clock by more than a minute does not count; one that is
  * less ahead, or a file that is ahead, was saved just now. Half a cycle or more would be a step back to the library.
+ * A save at the turn of a second has a file's time that is one later than its table: the table's own clock counts then, or a
+ * panel's answer with what it was told to be left before a restart would be less than what is left after it, and refused.
  */
 static int64_t passed_since(int64_t by_table, int64_t by_file)
 {
-    int64_t passed = by_table >= -STEP_MOST && by_table < by_file ? by_table : by_file;
+    int64_t passed = by_table >= -STEP_MOST && by_table <= by_file + 1 ? by_table : by_file;
     if (passed < 0)
         return 0;
     return passed < CYCLE / 2 ? passed : CYCLE / 2 - 1;

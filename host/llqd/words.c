@@ -58,7 +58,7 @@ static void print_outcome(FILE *out, const struct answer *answer, struct holding
 {
     switch (answer->outcome) {
     case GRANTED: fprintf(out, "granted, lease %" PRIu32, answer->told.lease); break;
-    case GRANTED_BEFORE: fprintf(out, "granted before, lease %" PRIu32, answer->told.lease); break;
+    case GRANTED_BEFORE: fprintf(out, "granted before, %" PRIu32 " s left", answer->told.lease); break;
     case FULL: print_full(out, holdings); break;
     case ESTABLISHED: fprintf(out, "established, %" PRIu32 " s left", answer->told.lease); break;
     case RENEWED: fprintf(out, "renewed, lease %" PRIu32, answer->told.lease); break;

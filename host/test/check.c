@@ -11,7 +11,7 @@
 /* Places in a table and in a slot (document 01's layout). */
 enum { RUNNING_AT = 5, SLOTS_AT = 313, SLOT_SIZE = 320, SLOTS_MOST = 64 };
 enum { ADDRESS_AT = 1, PORT_AT = 17, NUMBER_AT = 19, LEASE_AT = 27, STAMP_AT = 31, NAME_AT = 40 };
-enum { RECORDS_MOST = 512, OPEN_MOST = 2, AGE_OFF_MOST = 3 };
+enum { RECORDS_MOST = 512, OPEN_MOST = 2 };
 
 static struct record {
     char key[160]; /* ADDRESS PORT NAME */
@@ -108,7 +108,7 @@ static void read_slot(const uint8_t *slot, uint32_t running)
         snprintf(name + strlen(name), sizeof name - strlen(name), "%s%.*s", *name ? "." : "", *label, (const char *)label + 1);
     snprintf(key, sizeof key, "%s %u %s", address, (unsigned)get(slot + PORT_AT, 2), name);
     struct record *record = record_of(key, 0);
-    record->found = (struct state){slot[0], get(slot + NUMBER_AT, 8), (uint32_t)get(slot + LEASE_AT, 4), 0};
+    record->found = (struct state){.kind = slot[0], .number = get(slot + NUMBER_AT, 8), .lease = (uint32_t)get(slot + LEASE_AT, 4)};
     record->age = running - (uint32_t)get(slot + STAMP_AT, 4);
 }
 

@@ -19,9 +19,12 @@ enum { FREE = 4, PENDING = 5, ESTABLISHED = 6 };
 struct state {
     int kind;
     uint64_t number;
-    uint32_t lease;
-    double time; /* when the lease began, by the wall clock */
+    uint32_t lease, told; /* granted, and what was last told to be left of it */
+    double time;          /* when the lease began, by the wall clock */
 };
+
+/* Seconds that a lease's age may be off: the host counts whole ones, and the client may be kept waiting. */
+enum { AGE_OFF_MOST = 3 };
 
 extern const char *const state_words[]; /* from FREE on */
 

@@ -18,7 +18,12 @@ file() { stat -c '%i %Y %s' "$table" && sha256sum <"$table"; }
 # later SECONDS: the file's time as it were had the clock been so far ahead when it was saved
 later() { touch -d "@$(($(stat -c %Y "$table") + $1))" "$table"; }
 stamp() { stat -c '%i %y' "$table"; }
-told() { set -- $(llq 127.0.0.2 18501 a.example 1 $sign 3600); echo "${3:-none}"; } # what the response says is left
+# told: what is left, by a response with what a setup again was told; that is as much, or some seconds more
+told() {
+    local again=$(llq 127.0.0.2 18501 a.example 1 0 60 | cut -d ' ' -f 3)
+    set -- $(llq 127.0.0.2 18501 a.example 1 $sign "${again:-0}")
+    [ "${1:-4}" = 0 ] && [ $((again - $3)) -le 3 ] && echo "$3" || echo "${again:-none}, then $*"
+}
 date='[0-9]{4}-[0-9]{2}-[0-9]{2} [0-9]{2}:[0-9]{2}:[0-9]{2} UTC'
 day='86(39[89]|40[0-2])'
 

@@ -14,7 +14,7 @@ scene() {
     spoil
     # what changes nothing is answered, and nothing is said yet
     is "$what: a refresh of no entry" "$(llq 127.0.0.4 18541 x.example 2 77 60)" '4 77 0'
-    is "$what: a repeated setup" "$(llq 127.0.0.2 18501 a.example 1 0 60)" "0 $kept 3600"
+    found "$what: a repeated setup" 127.0.0.2 18501 a.example 3600
     is "$what: nothing is said yet" "$(lines '.*not saved.*')" 0
     # what changes the table is not; the entry that was saved is still told of
     patience=30
@@ -22,7 +22,7 @@ scene() {
     jobs=$!
     logged "$what: the line" "llqd: $table: not saved: $reason; trying again every second"
     patience=3
-    like "$what: a response of a saved entry" "$(llq 127.0.0.2 18501 a.example 1 $kept 3600)" "0 $kept 3[56][0-9]{2}"
+    answered "$what: a response of a saved entry" 127.0.0.2 18501 a.example 3600 $told
     is "$what: a refresh of no entry, again" "$(llq 127.0.0.4 18541 x.example 2 77 60)" '4 77 0'
     patience=30
     llq 127.0.0.2 18501 a.example 2 $kept 7200 >"$work/refresh" &
@@ -54,8 +54,8 @@ restart() {
     end 9
     start --state "$table"
     logged "$what, restart: taken up" "llqd: 8 slots, 4 entries taken up from $table"
-    is "$what, restart: a saved entry" "$(llq 127.0.0.4 18543 d.example 1 0 60 | cut -d ' ' -f 1,3)" '0 3600'
     sleep 1.5
+    found "$what, restart: a saved entry" 127.0.0.4 18543 d.example 3600
     is "$what, restart: nothing was written or said" "$(stat -c '%i %y' "$table") $(lines '.*not saved.*')" "$file 0"
     end TERM
     is "$what, restart: stopped" "$code $(tail -n 1 "$log")" '0 llqd: stopped'

@@ -1,5 +1,5 @@
 #!/usr/bin/env bash
-# Setup, response, refresh and end, the limits, the listed address; kill -9 and SIGTERM, and the entries taken up again.
+# Setup, the setup again, response, refresh and end, the limits, the listed address; kill -9 and SIGTERM, and the entries taken up again.
 . "$(dirname "$0")/lib.sh"
 alone
 
@@ -7,16 +7,28 @@ printf '127.0.0.5 2 3 # the sign\n' >"$work/roster"
 start --slots 6 --roster "$work/roster" --state "$table"
 is 'the start' "$(cat "$log")" "llqd: listening on 127.0.0.1 port $port"$'\n'"llqd: 6 slots, 0 entries taken up: $table is new"
 
-# ---- setup, repeated setup, response, refresh, end
+# ---- setup, and two seconds later the setup again, in another spelling: the same number and what is left
 granted setup 127.0.0.2 18501 panel.example 3600
 [ "$number" != 0 ] || fail 'setup: number 0'
-is 'another spelling is the same question' "$(llq 127.0.0.2 18501 Panel.EXAMPLE 1 0 60)" "0 $number 3600"
+sleep 2
+found 'the setup again' 127.0.0.2 18501 Panel.EXAMPLE 3600
+rest=$told
 is 'a refresh before the response' "$(llq 127.0.0.2 18501 panel.example 2 $number 60)" "4 $number 0"
 is 'a response from another port' "$(llq 127.0.0.2 18502 panel.example 1 $number 3600)" '4 0 0'
-since=$EPOCHSECONDS
-set -- $(llq 127.0.0.2 18501 panel.example 1 $number 3600)
-is response "${1:-} ${2:-}" "0 $number"
-lives 'the lease told by the response' "${3:-}" 3600 $since
+
+# ---- a response is right with any lease from what is left to what was granted, before it is established and after
+wrong() {
+    is "$1: a response with ten less than what is left" "$(llq 127.0.0.2 18501 panel.example 1 $number $((rest - 10)))" '4 0 0'
+    is "$1: one with lease 0" "$(llq 127.0.0.2 18501 panel.example 1 $number 0)" '4 0 0'
+    is "$1: one with more than was granted" "$(llq 127.0.0.2 18501 panel.example 1 $number 3601)" '4 0 0'
+    is "$1: it stays so" "$(entries | cut -d ' ' -f 2,3,5)" "18501 $1 1:00:00"
+}
+wrong pending
+answered 'a response with what is left' 127.0.0.2 18501 panel.example 3600 $rest
+wrong established
+answered 'one with what was granted' 127.0.0.2 18501 panel.example 3600 3600
+answered 'one with a lease between' 127.0.0.2 18501 panel.example 3600 $((rest + 1))
+found 'the setup again when established' 127.0.0.2 18501 panel.example 3600
 is refresh "$(llq 127.0.0.2 18501 panel.example 2 $number 9000)" "0 $number 7200"
 is end "$(llq 127.0.0.2 18501 panel.example 2 $number 0)" "0 $number 0"
 is 'a refresh of what has ended' "$(llq 127.0.0.2 18501 panel.example 2 $number 60)" "4 $number 0"
@@ -33,8 +45,14 @@ granted 'its second' 127.0.0.5 18532 sign.example 3600
 # ---- kill -9 and restart: entries and their remaining life are kept
 before=$(entries)
 sleep 2
+turn() { [ "${EPOCHREALTIME#*.}" -lt 200000 ]; }
+await 2 turn
+found 'the second, before kill -9' 127.0.0.5 18532 sign.example 3600
 end 9
+touch -d "@$((not_before / 1000000 + 1))" "$table" # as after a save at the turn of a second
 start --state "$table"
+answered 'what it was told is right after the restart' 127.0.0.5 18532 sign.example 3600 $told
+before=${before/ 18532 pending/ 18532 established}
 logged 'the entries taken up' "llqd: 6 slots, 6 entries taken up from $table"
 is 'the entries after kill -9' "$(entries)" "$before"
 is 'the slots shown' "$(show | tail -n 1)" 'slots: 6, used 6, free 0, reserved 0'

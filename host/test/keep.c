@@ -45,15 +45,18 @@ struct operation {
     struct state next;     /* what it leads to */
 };
 
-static struct operation choose(struct state known)
+/* If the entry is to be left alone, one that changes nothing. A response has any lease from what was told last to the granted one. */
+static struct operation choose(struct state known, int alone)
 {
     uint32_t lease = 3600 + below(3600), pick = below(8);
-    struct llq again = {SETUP, 0, 0, lease}, response = {SETUP, 0, known.number, known.lease};
+    struct llq again = {SETUP, 0, 0, lease}, response = {SETUP, 0, known.number, known.lease - below(known.lease - known.told + 1)};
     struct operation done = {.sent = again, .next = known};
     if (known.kind == FREE) {
-        done.next = (struct state){PENDING, 0, lease, 0};
-    } else if (pick == 0) {
-        return done; /* asked for again: the reply tells of the entry as it is */
+        done.next = (struct state){.kind = PENDING, .lease = lease};
+    } else if (alone || pick == 0) {
+        if (known.kind == ESTABLISHED && below(2))
+            done.sent = response;
+        return done; /* asked for or answered again: the reply tells of the entry as it is */
     } else if (known.kind == PENDING) {
         done.sent = response;
         done.next.kind = ESTABLISHED;
@@ -66,7 +69,7 @@ static struct operation choose(struct state known)
             lease = known.lease;
         }
         done.sent = (struct llq){REFRESH, 0, known.number, lease};
-        done.next = (struct state){ESTABLISHED, known.number, lease, 0};
+        done.next = (struct state){.kind = ESTABLISHED, .number = known.number, .lease = lease};
     }
     if (below(3) == 0)
         done.follower = done.sent;
@@ -75,35 +78,45 @@ static struct operation choose(struct state known)
     return done;
 }
 
-/* Takes what the reply says of the entry into `next`; 0 if it goes against what was acknowledged before. */
-static int settle(struct state known, struct llq asked, struct llq back, int copies, struct state *next)
+/* Whether it tells what is left of this lease, which began at its time, or since the operation began if it has none yet. */
+static int tells_left(struct llq back, struct state of, double began)
 {
-    if (asked.number == 0 && known.kind == FREE) { /* a new question: granted, or full */
-        if (back.error == FULL)
-            *next = known;
-        next->number = back.number;
-        next->time = wall();
-        return back.error == FULL || (back.error == 0 && back.number != 0 && back.lease == asked.lease);
+    double age = (double)of.lease - back.lease, since = wall() - (of.time > 0 ? of.time : began);
+    return back.error == 0 && age >= 0 && age <= since + AGE_OFF_MOST && (of.time <= 0 || age >= since - AGE_OFF_MOST);
+}
+
+/* Takes what the reply says of the entry into `next`; 0 if it goes against what was acknowledged before. */
+static int settle(struct state known, double began, struct llq asked, struct llq back, int copies, struct state *next)
+{
+    if (asked.number == 0 && known.kind == FREE && back.error == FULL) {
+        *next = known;
+        return 1;
     }
-    if (asked.number == 0) /* granted before; the lease is that of the refresh before it, if there was one */
-        return back.error == 0 && back.number == known.number && back.lease == next->lease;
+    next->told = back.lease;
+    if (asked.number == 0 && known.kind == FREE) { /* a new question; a second copy finds the entry of the first */
+        int right = back.number != 0 && tells_left(back, *next, began);
+        next->number = back.number;
+        next->time = wall() - (next->lease - back.lease);
+        return right;
+    }
     if (asked.opcode == SETUP && next->kind == FREE) /* a response behind the end */
         return back.error == NO_SUCH;
-    if (asked.opcode == SETUP)
-        return back.error == 0 && back.number == known.number && back.lease <= known.lease;
+    if (asked.opcode == SETUP) /* the lease is that of the refresh before it, if there was one */
+        return back.number == known.number && tells_left(back, *next, began);
     if (asked.lease == 0) /* a second copy finds that it has ended */
         return (back.error == 0 || (back.error == NO_SUCH && copies > 1)) && back.number == known.number;
     return back.error == 0 && back.number == known.number && back.lease == asked.lease;
 }
 
 /* Does it until it is answered or the time is over: whether it was answered. */
-static int operate(int log, double end, const char *address, unsigned i, int s, struct state *known)
+static int operate(int log, double end, const char *address, unsigned i, int s, struct state *known, int alone)
 {
-    struct operation doing = choose(*known);
+    double began = wall();
+    struct operation doing = choose(*known, alone);
     struct state next = doing.next;
     struct llq back;
     if (doing.forerunner.opcode) {
-        struct state between = {ESTABLISHED, known->number, doing.forerunner.lease, 0};
+        struct state between = {.kind = ESTABLISHED, .number = known->number, .lease = doing.forerunner.lease};
         note(log, "sent", address, i, between);
         ask(s, names[i % NAMES], &doing.forerunner, 1, below(3000) / 1e6, &back);
     }
@@ -121,7 +134,7 @@ static int operate(int log, double end, const char *address, unsigned i, int s, 
     if (!answered)
         return 0;
     struct llq asked = both[answered - 1];
-    int right = settle(*known, asked, back, copies, &next);
+    int right = settle(*known, began, asked, back, copies, &next);
     if (doing.sent.opcode == REFRESH)
         next.time = wall();
     note(log, right ? "acked" : "wrong", address, i, next);
@@ -145,10 +158,11 @@ static void keep_address(int log, double end, const char *address)
         entries[i] = (struct state){.kind = FREE};
     while (now() < end) {
         unsigned i = below(ENTRIES);
-        /* the first entry is left alone for long, so that its lease is seen to run on over restarts */
-        if (i == 0 && entries[i].kind == ESTABLISHED && below(1000))
+        /* the first entry is left alone for long, and asked for at times, so that its lease is seen to run on over restarts */
+        int alone = i == 0 && entries[i].kind == ESTABLISHED && below(1000);
+        if (alone && below(20))
             continue;
-        if (!operate(log, end, address, i, sockets[i / NAMES], &entries[i]))
+        if (!operate(log, end, address, i, sockets[i / NAMES], &entries[i], alone))
             return;
     }
 }

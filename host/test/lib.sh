@@ -136,12 +136,28 @@ llq() {
         sed -n 's/^; LLQ: Version: 1, Opcode: '"$4"', Error: \([0-9]*\), Identifier: \([0-9]*\), Lifetime: \([0-9]*\).*/\1 \2 \3/p'
 }
 
-# granted WHAT FROM PORT NAME LEASE: a setup that is granted; its number in $number
+# granted WHAT FROM PORT NAME LEASE: a setup that is granted; its number in $number, and in $not_before and $not_after when that was
 granted() {
+    not_before=${EPOCHREALTIME/./}
     set -- "$1" "$5" $(llq "$2" "$3" "$4" 1 0 "$5")
+    not_after=${EPOCHREALTIME/./}
     is "$1" "${3:-none} ${5:-none}" "0 $2"
     number=$4
 }
+
+# tells WHAT FROM PORT NAME LEASE NUMBER SENT: a setup or a response is told the number of the entry granted last and, in $told,
+# what is left of its lease: no more and no less than the time since explains, which the host counts in whole seconds
+tells() {
+    local lease=$5 least=$(((${EPOCHREALTIME/./} - not_after) / 1000000))
+    set -- "$1" $(llq "$2" "$3" "$4" 1 "$6" "$7")
+    is "$1" "${2:-none} ${3:-none}" "0 $number"
+    told=$4
+    between "$1: what is left" "$told" $((lease - (${EPOCHREALTIME/./} - not_before) / 1000000 - 1)) $((lease - least))
+}
+# found WHAT FROM PORT NAME LEASE: a setup again, which asks for another lease
+found() { tells "$@" 0 60; }
+# answered WHAT FROM PORT NAME LEASE SENT: a response with this lease is right
+answered() { tells "${@:1:5}" "$number" "$6"; }
 
 # established WHAT FROM PORT NAME LEASE: setup and response; its number in $number
 established() {

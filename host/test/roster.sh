@@ -187,13 +187,15 @@ end TERM
 roster '127.0.0.5 1 1'
 start --slots 3 --roster "$work/roster"
 granted 'without --state' 127.0.0.3 18511 tablet.example 3600
+tablet=($number $not_before $not_after)
 roster '127.0.0.5 2 2'
 kill -HUP $host
 logged 'without --state: taken' 'llqd: new roster and slots taken: 1 listed addresses, 3 slots, 1 entries kept'
 is 'the new share counts: others' "$(llq 127.0.0.3 18512 tablet.example 1 0 3600)" '1 0 60'
 granted 'the new share counts: the sign' 127.0.0.5 18531 sign.example 3600
 granted 'the new share counts: the sign'\''s second' 127.0.0.5 18532 sign.example 3600
-is 'the tablet'\''s entry is there' "$(llq 127.0.0.3 18511 tablet.example 1 0 60 | cut -d ' ' -f 1,3)" '0 3600'
+number=${tablet[0]} not_before=${tablet[1]} not_after=${tablet[2]}
+found 'the tablet'\''s entry is there' 127.0.0.3 18511 tablet.example 3600
 end TERM
 
 passed

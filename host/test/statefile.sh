@@ -141,16 +141,19 @@ if bash "$(dirname "$0")/tools.sh" 2>/dev/null; then
     start --state "$work/cut/table"
     granted_now() { [ "$(used "$work/cut/table")" = 1 ]; }
     patience=1
+    not_before=${EPOCHREALTIME/./}
     llq 127.0.0.2 18501 a.example 1 0 3600 >"$work/early" &
     early=$!
     await 10 granted_now || fail 'slow syncs: the new file did not come'
+    not_after=${EPOCHREALTIME/./}
+    number=$(printf %u "0x$(entries "$work/cut/table" | cut -d ' ' -f 4)")
     end 9
     wait $early
     is 'killed before the folder was synced: no reply' "$(cat "$work/early")" ''
     is 'killed before the folder was synced: what a power cut leaves' "$(used "$work/cut/table.kept")" 0
     patience=8
     start --state "$work/cut/table"
-    granted 'the same setup after it' 127.0.0.2 18501 a.example 3600
+    found 'the same setup after it' 127.0.0.2 18501 a.example 3600
     is 'the same setup after it: what a power cut leaves' "$(used "$work/cut/table.kept")" 1
     end TERM
     under=() patience=3

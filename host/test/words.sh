@@ -21,11 +21,12 @@ printf '127.0.0.5 2 3\n2001:db8::10 1 8\n127.0.0.6 0 1\n' >"$work/roster"
 start --slots 7 --roster "$work/roster" --state "$table" --verbose
 granted 'a setup' 127.0.0.2 18501 sign.example 3600
 verbose 'granted' '127.0.0.2:18501 setup sign.example. PTR: granted, lease 3600'
-granted 'a setup again' 127.0.0.2 18501 SIGN.example 3600
-like 'granted before: number' "$number" '[1-9][0-9]*'
-verbose 'granted before' '127.0.0.2:18501 setup (sign|SIGN).example. PTR: granted before, lease 3600'
+sleep 1
+found 'a setup again' 127.0.0.2 18501 SIGN.example 3600
+verbose 'granted before' "127.0.0.2:18501 setup (sign|SIGN).example. PTR: granted before, $told s left"
 asks 'established' 127.0.0.2 18501 sign.example "$(option 1 $number 3600)" 'response sign.example. PTR: established, 3(600|59[0-9]) s left'
 asks 'a response: no such LLQ' 127.0.0.2 18502 sign.example "$(option 1 $number 3600)" 'response sign.example. PTR: no such LLQ'
+asks 'a response with a wrong lease' 127.0.0.2 18501 sign.example "$(option 1 $number 3601)" 'response sign.example. PTR: no such LLQ'
 asks 'renewed' 127.0.0.2 18501 sign.example "$(option 2 $number 9000)" 'refresh sign.example. PTR: renewed, lease 7200'
 asks 'ended' 127.0.0.2 18501 sign.example "$(option 2 $number 0)" 'refresh sign.example. PTR: ended'
 asks 'a refresh: no such LLQ' 127.0.0.2 18501 sign.example "$(option 2 $number 60)" 'refresh sign.example. PTR: no such LLQ'
@@ -95,10 +96,10 @@ kill -USR1 $host
 logged 'the end of the report' 'slots: 7, used 6, free 1, reserved 1'
 squeezed=$(sed 's/  */ /g; s/ $//' "$log")
 like 'the counters: since' "$(head -n 1 <<<"$squeezed")" "counters since $date:"
-is 'the counters' "$(sed -n '2,9p' <<<"$squeezed")" " datagrams 39: answered 33, refused 6, link-local 0
+is 'the counters' "$(sed -n '2,9p' <<<"$squeezed")" " datagrams 40: answered 34, refused 6, link-local 0
  refused 3: 2 4: 1 5: 1 6: 1 7: 1
  setup granted 7, granted before 1, full 4
- response established 1, no such LLQ 1
+ response established 1, no such LLQ 2
  refresh renewed 1, ended 1, no such LLQ 10
  other format error 6, version 1
  entries run out 0
@@ -182,7 +183,7 @@ is 'without --verbose: nothing is said' "$(cat "$log")" \
 end TERM
 
 # ---- --version, -h, errors of options: one line each
-is '--version' "$(said --version)" $'llqd 0.2.0\nexit 0'
+is '--version' "$(said --version)" $'llqd 0.3.0\nexit 0'
 is '--version is llq.h'\''s' "$(sed -n 's/^#define LLQ_VERSION "\(.*\)".*/llqd \1/p' "$(dirname "$0")/../../include/llq.h")" "$("$LLQD" --version)"
 is '-h and --help' "$(said -h)" "$(said --help)"
 is '-h: exit 0, nothing on stderr' "$("$LLQD" -h 2>&1 >/dev/null; echo $?)" 0
