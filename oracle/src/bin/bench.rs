@@ -273,7 +273,7 @@ fn agreed(call: Call, slots: usize) -> Result<Work, String> {
     assert_eq!(answer.0, call.number(), "the number that the workload is for");
     match call {
         Tick => assert_eq!(answer.1, 0, "no entry runs out"),
-        Refresh(_) | Setup => drop(left.granted(call.questions(), answer.1 as usize)),
+        Refresh(_) | Setup | Response => drop(left.granted(call.questions(), answer.1 as usize)),
         DamagedDatagram | DamagedTable => assert!(left.table == given.table, "refused"),
     }
     for &(name, side) in SIDES {
