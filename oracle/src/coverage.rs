@@ -104,6 +104,7 @@ impl Mark {
         (Mark::LeaseOneOver, "response one over the granted lease"),
         // Responses with a lease told before a refresh, and not since.
         (Mark::LeaseBeforeRefresh, "response told before a refresh"),
+        // Setups that find an entry which an option before them in the datagram refreshed.
         (Mark::SetupBehindRefresh, "setup behind a refresh"),
     ];
 }

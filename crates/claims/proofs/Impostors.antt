@@ -8,10 +8,10 @@ use mathlib.Core.Logic.{inl, inr, ⊎-elim}
 use lib.ListN.{drop}
 use lib.Dec.{eqb, lit<}
 use Rattle.model.specs.Lists.{any, every, upTo, count}
-use Rattle.model.specs.Query.{question, llqOption, qdcount, matched}
+use Rattle.model.specs.Query.{Question, LlqOption, question, llqOption, qdcount, matched}
 use Rattle.model.specs.Table.{Entry, Slot, free, held, Table, tableBytes, readTable}
 use Rattle.model.specs.Rules.{Holding, holdings}
-use Rattle.model.specs.Serve.{establish, serveOption}
+use Rattle.model.specs.Serve.{Sender, Kind, badVersion, badFormat, setup, response, refresh, findEntry, slotOf, establish, answers, onSetup, onResponse, serveResponse, serveKind, serveOption}
 use Rattle.model.specs.Reply.{replyBytes, replyLength, mismatch}
 use Rattle.model.specs.Calls.{ServeCall, servedBy, serveRefusal, tableBefore, outcomeOf, tableAfter, outcomes, serve}
 use Rattle.model.proofs.Meaning.{read-stored}
@@ -26,7 +26,7 @@ use Rattle.claims.specs.Tick.{Ticking}
 use Rattle.claims.specs.Reply.{ReplyClaim}
 use Rattle.claims.specs.Repeats.{ToldLeases}
 use Rattle.claims.specs.CallBuilders.{makeAt, tickAt}
-use Rattle.claims.specs.Impostors.{right, serverOf, serveWith, tableWith, refusesAll, constantReply, saysFull, leavesTable, copiesFirst, inventsFreed, grantsUnstored, comparesSum, dropsPending, grantsIfFree, countsByPort, findsByNumber, repeatsGranted, restampsOnRepeat, grantedOnly, anyUpToGranted, openBelow, sentLessAge, countsBack, Refuted}
+use Rattle.claims.specs.Impostors.{right, serverOf, serveWith, tableWith, byKind, onFound, refusesAll, constantReply, saysFull, leavesTable, copiesFirst, inventsFreed, grantsUnstored, comparesSum, dropsPending, grantsIfFree, countsByPort, findsByNumber, repeatsGranted, restampsOnRepeat, grantedOnly, anyUpToGranted, openBelow, sentLessAge, countsBack, Refuted}
 use Rattle.claims.proofs.Demand3.Permutations.{perm-alike}
 use Rattle.claims.proofs.Definitions.{all-definitions}
 use Rattle.claims.proofs.CallBuilders.{areBytes, bytes-by-test, sound-by-test, asking, askingTwo, rosterOf, fromAt, from, make-in-range, tick-at-in-range, tick-in-range, from-at-in-range, from-in-range, tableBuffer, replyBuffer, freshBytes, along-datagrams}
@@ -267,6 +267,8 @@ any-up-to-granted k =
     least zero l h = omega (arith, h)
     least (suc i) l h = omega arith
 
+-- ---- THE CLOCK
+
 -- a tick 10 seconds back: 3,560 was told, and 3,570 remain
 counts-back : ToldLeases countsBack → ⊥
 unfolding all-definitions
@@ -340,3 +342,18 @@ serve-by (suc k) c b given = refl
 pub serve-right : (c : ServeCall) (b given : List ℕ) → serverOf right .serve c b given ≡ serve c b given
 unfolding serve
 serve-right c b given = serve-by (serveRefusal c b) c b given
+
+-- with the model's test and the model's answer, a response is the model's, and a setup is with the model's challenge of an entry that is there
+pub response-right : (k : Kind) (s : Sender) (r : ℕ) (q : Question) (o : LlqOption) (t : Table)
+    → byKind (serveKind setup) (λ s r q o t. let i = findEntry (answers s q o) t in onResponse o t i (slotOf t i)) k s r q o t ≡ serveKind k s r q o t
+unfolding serveKind serveResponse
+response-right badVersion s r q o t = refl
+response-right badFormat s r q o t = refl
+response-right setup s r q o t = refl
+response-right response s r q o t = refl
+response-right refresh s r q o t = refl
+
+pub found-right : (s : Sender) (r : ℕ) (q : Question) (o : LlqOption) (t : Table) (i : ℕ) (x : Slot)
+    → onFound (λ o t i e. onSetup s r q o t (held e)) s r q o t i x ≡ onSetup s r q o t x
+found-right s r q o t i free = refl
+found-right s r q o t i (held e) = refl

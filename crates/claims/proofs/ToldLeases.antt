@@ -100,5 +100,5 @@ pub told-leases : ToldLeases model
 told-leases =
     record {
       right = λ b es j e x s ranges h here all there from q o so own n r. told-right b es j e s ranges h here all x there from q o so own n r;
-      left = λ b es j e s ranges h here all seconds r. told-left b es j e s ranges h here all seconds r;
+      remains = λ b es j e s ranges h here all seconds r. told-left b es j e s ranges h here all seconds r;
     }

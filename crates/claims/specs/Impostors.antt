@@ -1,12 +1,13 @@
--- Wrong servers: document 01's impostors, the old box's five faults, and seven that tell or take a lease wrongly, each the model with one part wrong,
--- and the claim that each breaks. Assumes nothing.
+-- Wrong servers: document 01's impostors, the old box's five faults, six that tell or take a lease wrongly, and one that takes steps back from the
+-- count; each the model with one part wrong, and the claim that each breaks. Assumes nothing.
 use Prim.Native.Nat.{ℕ, zero, suc, _+_, _-_, _%_, _^_}
 use mathlib.Core.Bool.{Bool, not, cond, _&&_, _||_}
 use mathlib.Core.List.{List, [], _∷_, _++_, map}
 use lib.ListN.{length, drop}
+use lib.IntN.{ℤ, pos, negsuc}
 use lib.Dec.{eqb, leb, ltb}
 use Rattle.model.specs.Lists.{count, any, upTo}
-use Rattle.model.specs.Clock.{advance, placeOf, ageAt}
+use Rattle.model.specs.Clock.{Clock, step, moved, advance, placeOf, ageAt}
 use Rattle.model.specs.Query.{Question, LlqOption, question, llqOption, qdcount, matched}
 use Rattle.model.specs.Table.{Entry, Slot, free, held, Table, tableBytes, readTable}
 use Rattle.model.specs.Rules.{Holding, holdings, asks, numbered, limitOf, shareOf, reserve}
@@ -185,7 +186,7 @@ countsByPort =
     leb (limitOf (t .roster) (s .address)) h
     || (leb (shareOf (t .roster) (s .address)) h && leb (count (t .slots) isFree) (reserve (t .roster) (count (holdings t)))))
 
--- a response, with this test of the holding that it names, and this of the slot that it finds
+-- a response, with this test of the holding that it names, and this done with the slot that it finds
 abbrev pub withResponse : (Sender → Question → LlqOption → Holding → Bool) → (LlqOption → Table → ℕ → Slot → Served) → Server
 withResponse f g =
     withOption
@@ -265,12 +266,16 @@ onSent o t i free = onResponse o t i free
 abbrev pub sentLessAge : Server
 sentLessAge = withResponse answers onSent
 
--- takes a step back from the running count, so that a life grows again after it was told
+-- THE CLOCK
+
+-- a step back is taken from the running count, and its place is kept
+abbrev pub movedBack : Clock → ℕ → ℤ → Clock
+movedBack c to (pos n) = moved c to (pos n)
+movedBack c to (negsuc n) = record { place = to; running = (c .running + 2 ^ 32 - suc n) % 2 ^ 32 }
+
+-- so a life grows again after it was told
 abbrev pub countsBack : Server
-countsBack =
-    withMove
-    (λ t place.
-    freeRunOut (withClock t (record { place = place; running = (t .clock .running + 2 ^ 32 + place - t .clock .place) % 2 ^ 32 })))
+countsBack = withMove (λ t place. freeRunOut (withClock t (movedBack (t .clock) place (step (t .clock .place) place))))
 
 -- EACH BREAKS A CLAIM
 pub record Refuted : Type 0 where

@@ -1,5 +1,5 @@
--- W11, and the table's bytes after its making, its setup, its setup again, its response and a refresh without RD, and those of a table whose numbers
--- have no byte in common, written out from document 01's layout. Assumes nothing.
+-- W11, and the table's bytes after its making, its setup, its response and a refresh without RD; after its setup again and two late responses; and
+-- those of a table whose numbers have no byte in common, written out from document 01's layout. Assumes nothing.
 use Prim.Native.Nat.{ℕ, _+_}
 use mathlib.Core.Path.{_≡_}
 use mathlib.Core.Bool.{true, false}

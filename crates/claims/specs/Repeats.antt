@@ -73,6 +73,6 @@ pub record ToldLeases (s : Server) : Type 0 where
       → SameLeaseAlong j e es → slotOf (readTable (leftBy b es)) j ≡ held x → (from : Sender) (q : Question) (o : LlqOption) → Response o → Own from q e
       → e .number ≡ o .number → Remains (readTable b) e (o .lease) → RightResponse (readTable (leftBy b es) .clock .running) from q o x
   -- and less the steps forward, as whole numbers, they remain, 1 or more
-  pub left : (b : List ℕ) (es : List Event) (j : ℕ) (e : Entry) → SoundBytes b → AllInRange es → Trace s b es → slotOf (readTable b) j ≡ held e
+  pub remains : (b : List ℕ) (es : List Event) (j : ℕ) (e : Entry) → SoundBytes b → AllInRange es → Trace s b es → slotOf (readTable b) j ≡ held e
       → SameLeaseAlong j e es → (seconds : ℕ) → Remains (readTable b) e seconds
       → (stepsAlong b es < seconds) × Remains (readTable (leftBy b es)) e (seconds - stepsAlong b es)

@@ -167,7 +167,7 @@ serveSetup s r q o t = onSetup s r q o t (slotOf t (findEntry (asks (s .address)
 
 -- RESPONSE, RFC 8764 section 5.2.3
 
--- the span of the leases that a response may repeat: from the life that remains to the granted lease, both included
+-- the span of the leases that a response may send: from the life that remains to the granted lease, both included
 abbrev pub inSpan : ℕ → ℕ → ℕ → Bool
 inSpan granted age sent = leb (lifeLeft granted age) sent && leb sent granted
 
