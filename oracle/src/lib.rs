@@ -25,4 +25,7 @@ pub mod server;
 pub mod told;
 pub mod variants;
 
+#[cfg(test)]
+mod spans;
+
 pub use calls::{make, serve, tick, Served, Ticked};

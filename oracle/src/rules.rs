@@ -184,6 +184,7 @@ pub fn reserve<R: Rules>(table: &Table) -> i32 {
 #[cfg(test)]
 mod tests {
     use super::*;
+    use crate::spans::SPANS;
     use crate::table::{field, SlotRecord};
 
     #[test]
@@ -201,24 +202,10 @@ mod tests {
         }
     }
 
-    /// Granted lease, age and lease sent, at a count that has wrapped.
+    /// At a count that has wrapped.
     #[test]
     fn spans() {
-        for (granted, age, sent, right) in [
-            (3_600, 0, 3_600, true),
-            (3_600, 0, 3_599, false),
-            (3_600, 40, 3_559, false),
-            (3_600, 40, 3_560, true),
-            (3_600, 40, 3_580, true),
-            (3_600, 40, 3_600, true),
-            (3_600, 40, 3_601, false),
-            (60, 59, 0, false),
-            (60, 59, 1, true),
-            (60, 59, 60, true),
-            (60, 59, 61, false),
-            (7_200, 7_199, 1, true),
-            (60, 0, u32::MAX, false),
-        ] {
+        for (granted, age, sent, right) in SPANS {
             let mut record: SlotRecord = [0; 320];
             let count = 5u32;
             record[field::LEASE..][..4].copy_from_slice(&u32::to_be_bytes(granted));
