@@ -2,7 +2,7 @@
 -- each. Assumes nothing.
 use Prim.Native.Nat.{ℕ, zero, suc, _+_, _*_, _/_, _%_, _^_, _<_}
 use native.Mathlib.Omega.{arith}
-use mathlib.Core.Path.{_≡_, refl, sym}
+use mathlib.Core.Path.{_≡_, refl, sym, subst}
 use mathlib.Core.Bool.{true}
 use mathlib.Core.List.{List, [], _∷_, _++_}
 use lib.ListN.{length, replicate, length-replicate}
@@ -10,14 +10,17 @@ use lib.Dec.{ltb, lit<}
 use borrow.Author.Tests.{ltb-true}
 use Rattle.model.specs.Lists.{every}
 use Rattle.model.specs.Numbers.{Bytes}
+use Rattle.model.specs.Table.{Entry, held, readTable}
 use Rattle.model.specs.Sound.{SoundBytes, soundBytes}
+use Rattle.model.specs.Serve.{slotOf}
 use Rattle.model.specs.Calls.{ServeCall}
 use Rattle.model.specs.Meets.{Server}
 use Rattle.model.proofs.ListLaws.{and-left, and-right}
 use Rattle.model.proofs.Meaning.{sound-means}
-use Rattle.claims.specs.Tally.{beginTally}
-use Rattle.claims.specs.Events.{Event, served, Trace, AllInRange, MakeInRange, TickInRange, ServeInRange}
+use Rattle.claims.specs.Tally.{Call, making, ticking, serving, beginTally}
+use Rattle.claims.specs.Events.{Event, made, ticked, served, callOf, tableOf, Happens, Trace, AllInRange, MakeInRange, TickInRange, ServeInRange, InRange}
 use Rattle.claims.specs.Demand3.{Demand3, Along}
+use Rattle.claims.specs.LiveAge.{leftBy, Since, LiveAge}
 use Rattle.claims.specs.CallBuilders.{makeAt, tickAt, datagramAt}
 
 -- BYTES, by a test
@@ -64,11 +67,11 @@ from address port d = fromAt 0 address port d
 pub make-in-range : (r : List ℕ) → areBytes r → MakeInRange (makeAt 0 0 r)
 make-in-range r e = record { week = lit< tt; second = lit< tt; roster = bytes-by-test r e }
 
-pub tick-at-in-range : (x : ℕ) → x < 2 ^ 32 → TickInRange (tickAt 0 x)
-tick-at-in-range x hx = record { week = lit< tt; second = hx }
+pub tick-at-in-range : (w x : ℕ) → w < 2 ^ 32 → x < 2 ^ 32 → TickInRange (tickAt w x)
+tick-at-in-range w x hw hx = record { week = hw; second = hx }
 
 pub tick-in-range : TickInRange (tickAt 0 0)
-tick-in-range = tick-at-in-range 0 (lit< tt)
+tick-in-range = tick-at-in-range 0 0 (lit< tt) (lit< tt)
 
 pub from-at-in-range : (x a p : ℕ) (d : List ℕ) → x < 2 ^ 32 → a < 2 ^ 128 → p < 2 ^ 16 → areBytes d → ServeInRange (fromAt x a p d)
 from-at-in-range x a p d hx ha hp e = record { week = lit< tt; second = hx; address = ha; port = hp; random = lit< tt; datagram = bytes-by-test d e }
@@ -83,37 +86,52 @@ tableBuffer n = replicate (313 + 320 * n) 0
 abbrev pub replyBuffer : ServeCall → List ℕ
 replyBuffer c = replicate (c .room) 0
 
--- WHAT A SERVER DOES with datagrams, one after the other, on a table's bytes
-abbrev pub eventOf : Server → List ℕ → ServeCall → Event
-eventOf s b c =
-    let a = s .serve c b (replyBuffer c) in served c (replyBuffer c) (a .number) (a .length) (a .table) (a .reply)
+-- WHAT A SERVER DOES with calls, one after the other, on a table's bytes
+abbrev pub eventOf : Server → List ℕ → Call → Event
+eventOf s b (making c) = let a = s .make c b in made c (a .number) (a .table)
+eventOf s b (ticking c) = let a = s .tick c b in ticked c (a .number) (a .freed) (a .table)
+eventOf s b (serving c) = let a = s .serve c b (replyBuffer c) in served c (replyBuffer c) (a .number) (a .length) (a .table) (a .reply)
 
-abbrev pub eventsOf : Server → List ℕ → List ServeCall → List Event
+abbrev pub eventsOf : Server → List ℕ → List Call → List Event
 eventsOf s b [] = []
-eventsOf s b (c ∷ cs) = eventOf s b c ∷ eventsOf s (s .serve c b (replyBuffer c) .table) cs
+eventsOf s b (c ∷ cs) = eventOf s b c ∷ eventsOf s (tableOf (eventOf s b c)) cs
 
-trace-of : (s : Server) (b : List ℕ) (cs : List ServeCall) → Trace s b (eventsOf s b cs)
+happens-of : (s : Server) (b : List ℕ) (c : Call) → Happens s b (eventOf s b c)
+happens-of s b (making c) = record { number = refl; table = refl }
+happens-of s b (ticking c) = record { number = refl; freed = refl; table = refl }
+happens-of s b (serving c) = (sym (length-replicate (c .room) 0), record { number = refl; length = refl; table = refl; reply = refl })
+
+pub trace-of : (s : Server) (b : List ℕ) (cs : List Call) → Trace s b (eventsOf s b cs)
 trace-of s b [] = tt
-trace-of s b (c ∷ cs) = (
-  (sym (length-replicate (c .room) 0), record { number = refl; length = refl; table = refl; reply = refl }),
-  trace-of s (s .serve c b (replyBuffer c) .table) cs,
-)
+trace-of s b (c ∷ cs) = (happens-of s b c, trace-of s (tableOf (eventOf s b c)) cs)
 
-abbrev pub ServesInRange : List ServeCall → Type 0
-ServesInRange [] = Unit {0}
-ServesInRange (c ∷ cs) = ServeInRange c × ServesInRange cs
+abbrev pub CallsInRange : List Call → Type 0
+CallsInRange [] = Unit {0}
+CallsInRange (c ∷ cs) = InRange c × CallsInRange cs
 
-all-in-range : (s : Server) (b : List ℕ) (cs : List ServeCall) → ServesInRange cs → AllInRange (eventsOf s b cs)
+call-of : (s : Server) (b : List ℕ) (c : Call) → callOf (eventOf s b c) ≡ c
+call-of s b (making c) = refl
+call-of s b (ticking c) = refl
+call-of s b (serving c) = refl
+
+pub all-in-range : (s : Server) (b : List ℕ) (cs : List Call) → CallsInRange cs → AllInRange (eventsOf s b cs)
 all-in-range s b [] r = tt
-all-in-range s b (c ∷ cs) r = (r .0, all-in-range s (s .serve c b (replyBuffer c) .table) cs (r .1))
+all-in-range s b (c ∷ cs) r = (subst InRange (sym (call-of s b c)) (r .0), all-in-range s (tableOf (eventOf s b c)) cs (r .1))
 
 -- ON A FRESH TABLE of n slots, with a roster
 module _ (s : Server) (n : ℕ) (r : List ℕ) where
   abbrev pub freshBytes : List ℕ
   freshBytes = s .make (makeAt 0 0 r) (tableBuffer n) .table
 
-  pub along-datagrams : Demand3 s → areBytes r → 0 ≡ s .make (makeAt 0 0 r) (tableBuffer n) .number → (cs : List ServeCall) → ServesInRange cs
+  pub along-calls : Demand3 s → areBytes r → 0 ≡ s .make (makeAt 0 0 r) (tableBuffer n) .number → (cs : List Call) → CallsInRange cs
       → Along (length (tableBuffer n)) (beginTally (length (tableBuffer n)) (makeAt 0 0 r)) (eventsOf s freshBytes cs)
-  along-datagrams claim e k cs ranges =
+  along-calls claim e k cs ranges =
       claim (tableBuffer n) freshBytes (makeAt 0 0 r) (eventsOf s freshBytes cs) (make-in-range r e) (all-in-range s freshBytes cs ranges)
       (record { number = k; table = refl }) (trace-of s freshBytes cs) .1
+
+  pub since-stamp : LiveAge s → areBytes r → 0 ≡ s .make (makeAt 0 0 r) (tableBuffer n) .number → (cs : List Call) → CallsInRange cs → (j : ℕ) (e : Entry)
+      → slotOf (readTable (leftBy freshBytes (eventsOf s freshBytes cs))) j ≡ held e
+      → Since (length (tableBuffer n)) (beginTally (length (tableBuffer n)) (makeAt 0 0 r)) freshBytes (eventsOf s freshBytes cs) j e
+  since-stamp claim e k cs ranges =
+      claim .summed (tableBuffer n) freshBytes (makeAt 0 0 r) (eventsOf s freshBytes cs) (make-in-range r e) (all-in-range s freshBytes cs ranges)
+      (record { number = k; table = refl }) (trace-of s freshBytes cs)

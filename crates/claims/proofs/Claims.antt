@@ -1,4 +1,5 @@
 -- The claims, all proved of the model's server. Assumes nothing.
+use Rattle.model.specs.Clock.{advance}
 use Rattle.model.specs.Meets.{Server, model}
 use Rattle.claims.specs.Refusals.{Refusals}
 use Rattle.claims.specs.Changes.{Changes}
@@ -6,7 +7,7 @@ use Rattle.claims.specs.Others.{KeepsOthers}
 use Rattle.claims.specs.Established.{EstablishedExactly}
 use Rattle.claims.specs.Tick.{Ticking}
 use Rattle.claims.specs.Demand3.{Demand3}
-use Rattle.claims.specs.Samples.{Samples, SpanSamples}
+use Rattle.claims.specs.Samples.{Samples, byTally, ClockSamples, SpanSamples}
 use Rattle.claims.specs.SoundSamples.{SoundSamples}
 use Rattle.claims.specs.Pins.{Pinned}
 use Rattle.claims.specs.Reply.{ReplyClaim}
@@ -23,13 +24,14 @@ use Rattle.claims.specs.OneSlot.{OneSlot}
 use Rattle.claims.specs.Contracts.{CallsExactly, ContractsExactly}
 use Rattle.claims.specs.Impostors.{Refuted}
 use Rattle.claims.specs.Step.{StepMeaning}
+use Rattle.claims.specs.Resumes.{Resumes}
 use Rattle.claims.proofs.Refusals.{refusals}
 use Rattle.claims.proofs.Changes.{changes}
 use Rattle.claims.proofs.Others.{keeps-others}
 use Rattle.claims.proofs.Established.{established-exactly}
 use Rattle.claims.proofs.Tick.{ticking}
 use Rattle.claims.proofs.Demand3.{demand3}
-use Rattle.claims.proofs.Samples.{samples-hold, span-samples-hold, sound-samples-hold, pinned}
+use Rattle.claims.proofs.Samples.{samples-hold, clock-samples-hold, span-samples-hold, sound-samples-hold, pinned}
 use Rattle.claims.proofs.Reply.{reply-claim}
 use Rattle.claims.proofs.Reading.{reads-queries}
 use Rattle.claims.proofs.AnySound.{any-sound}
@@ -45,6 +47,7 @@ use Rattle.claims.proofs.OneSlot.{one-slot}
 use Rattle.claims.proofs.Contracts.{calls-exactly, contracts-exactly}
 use Rattle.claims.proofs.Impostors.{refuted}
 use Rattle.claims.proofs.Step.{step-meaning}
+use Rattle.claims.proofs.Resumes.{resumes}
 
 pub record Claims (s : Server) : Type 0 where
   -- 1: each number is given exactly if its condition holds and none of a lower number; a refusal changes nothing
@@ -58,8 +61,9 @@ pub record Claims (s : Server) : Type 0 where
   pub ticking : Ticking s
   -- 5: demand 3, over every list of makings, datagrams and ticks on one table
   pub demand3 : Demand3 s
-  -- 6: document 01's samples, W1 to W10, those of a response's span, and W11 with the table's bytes
+  -- 6: document 01's samples, W1 to W10, those of the clock moved and of a response's span, and W11 with the table's bytes
   pub samples : Samples
+  pub clockSamples : ClockSamples advance × ClockSamples byTally
   pub spanSamples : SpanSamples
   pub pinned : Pinned s
   pub soundSamples : SoundSamples
@@ -69,7 +73,7 @@ pub record Claims (s : Server) : Type 0 where
   pub reading : ReadsQueries
   -- demand 3's facts from any sound table on
   pub anySound : AnySound s
-  -- a live entry's age is the sum of the forward steps since its stamp
+  -- a live entry's age is the sum of the forward steps since its stamp, by the calls alone
   pub liveAge : LiveAge s
   -- a setup sent again gets its number and the life that remains
   pub setupRepeats : SetupRepeats
@@ -84,6 +88,8 @@ pub record Claims (s : Server) : Type 0 where
   pub storedNames : StoredNames
   -- the step is the one integer of its range that is the places' difference and whole cycles
   pub step : StepMeaning
+  -- a clock that was set back runs on from there
+  pub resumes : Resumes advance
   -- numbers are big endian, and lists of bytes are cut and joined as they say
   pub numbersInBytes : NumbersInBytes
   -- a table's bytes, place by place
@@ -93,7 +99,7 @@ pub record Claims (s : Server) : Type 0 where
   -- a call's numbers and bytes are settled, and so are the public contracts
   pub calls : CallsExactly s
   pub contracts : ContractsExactly
-  -- nineteen wrong servers break a claim each
+  -- twenty-three wrong servers break a claim each
   pub refuted : Refuted
 
 pub claims : Claims model
@@ -106,6 +112,7 @@ claims =
       ticking = ticking;
       demand3 = demand3;
       samples = samples-hold;
+      clockSamples = clock-samples-hold;
       spanSamples = span-samples-hold;
       pinned = pinned;
       soundSamples = sound-samples-hold;
@@ -120,6 +127,7 @@ claims =
       sound = sound-exactly;
       storedNames = stored-names;
       step = step-meaning;
+      resumes = resumes;
       numbersInBytes = numbers-in-bytes;
       layout = table-layout;
       slot = one-slot;

@@ -1,35 +1,42 @@
 -- Each wrong server breaks a claim, by a computed list of calls. Assumes nothing.
-use Prim.Native.Nat.{ℕ, zero, suc, _+_, _≤_, _<_}
+use Prim.Native.Nat.{ℕ, zero, suc, _+_, _-_, _^_, _≤_, _<_}
 use native.Mathlib.Omega.{arith}
-use mathlib.Core.Path.{_≡_, refl, sym, ap, _∙_, fun-ext}
+use mathlib.Core.Path.{_≡_, refl, sym, ap, _∙_, fun-ext, subst}
 use mathlib.Core.Bool.{Bool, true, false, cond}
-use mathlib.Core.List.{List, [], _∷_, _++_}
+use mathlib.Core.List.{List, [], _∷_, _++_, map}
 use mathlib.Core.Logic.{inl, inr, ⊎-elim}
-use lib.ListN.{drop}
-use lib.Dec.{eqb, lit<}
+use lib.ListN.{length, drop, length-append}
+use lib.IntN.{ℤ, pos, negsuc}
+use lib.Dec.{eqb, leb, lit<}
 use Rattle.model.specs.Lists.{any, every, upTo, count}
+use Rattle.model.specs.Clock.{Clock, slack, moved}
 use Rattle.model.specs.Query.{Question, LlqOption, question, llqOption, qdcount, matched}
 use Rattle.model.specs.Table.{Entry, Slot, free, held, Table, tableBytes, readTable}
 use Rattle.model.specs.Rules.{Holding, holdings}
 use Rattle.model.specs.Serve.{Sender, Kind, badVersion, badFormat, setup, response, refresh, findEntry, slotOf, establish, answers, onSetup, onResponse, serveResponse, serveKind, serveOption}
 use Rattle.model.specs.Reply.{replyBytes, replyLength, mismatch}
-use Rattle.model.specs.Calls.{ServeCall, servedBy, serveRefusal, tableBefore, outcomeOf, tableAfter, outcomes, serve}
+use Rattle.model.specs.Calls.{TickCall, ServeCall, servedBy, serveRefusal, tableBefore, outcomeOf, tableAfter, outcomes, serve}
 use Rattle.model.proofs.Meaning.{read-stored}
 use Rattle.model.proofs.ListLaws.{never}
 use Rattle.model.proofs.HoldingLaws.{not-held}
 use Rattle.model.specs.Meets.{Server}
-use Rattle.claims.specs.Events.{ticked, ServeInRange}
+use Rattle.claims.specs.Tally.{Tally, Call, ticking, serving, beginTally, tallyAfter}
+use Rattle.claims.specs.Events.{Event, ticked, callOf, ServeInRange}
 use Rattle.claims.specs.Demand3.{Demand3, Agrees}
 use Rattle.claims.specs.Refusals.{Refusals, ReadingFault, weekTooLarge, secondTooLarge}
 use Rattle.claims.specs.Established.{FirstResponse, PendingAfter, EstablishedExactly}
-use Rattle.claims.specs.Tick.{Ticking}
+use Rattle.claims.specs.Tick.{TickDone, Ticking}
 use Rattle.claims.specs.Reply.{ReplyClaim}
+use Rattle.claims.specs.LiveAge.{AnsweredDatagram, addedAlong, tallyAlong, LiveAge}
 use Rattle.claims.specs.Repeats.{ToldLeases}
+use Rattle.claims.specs.Resumes.{Resumes}
+use Rattle.claims.specs.Samples.{ClockSamples}
 use Rattle.claims.specs.CallBuilders.{makeAt, tickAt}
-use Rattle.claims.specs.Impostors.{right, serverOf, serveWith, tableWith, byKind, onFound, refusesAll, constantReply, saysFull, leavesTable, copiesFirst, inventsFreed, grantsUnstored, comparesSum, dropsPending, grantsIfFree, countsByPort, findsByNumber, repeatsGranted, restampsOnRepeat, grantedOnly, anyUpToGranted, openBelow, sentLessAge, countsBack, Refuted}
+use Rattle.claims.specs.Impostors.{right, serverOf, serveWith, tableWith, byKind, onFound, refusesAll, constantReply, saysFull, leavesTable, copiesFirst, inventsFreed, grantsUnstored, comparesSum, dropsPending, grantsIfFree, countsByPort, findsByNumber, repeatsGranted, restampsOnRepeat, grantedOnly, anyUpToGranted, openBelow, sentLessAge, onBack, moveBack, stands, setTo, freezes, keepsAlways, waitsFor61, countsBack, endsOnSetBack, Refuted}
 use Rattle.claims.proofs.Demand3.Permutations.{perm-alike}
 use Rattle.claims.proofs.Definitions.{all-definitions}
-use Rattle.claims.proofs.CallBuilders.{areBytes, bytes-by-test, sound-by-test, asking, askingTwo, rosterOf, fromAt, from, make-in-range, tick-at-in-range, tick-in-range, from-at-in-range, from-in-range, tableBuffer, replyBuffer, freshBytes, along-datagrams}
+use Rattle.claims.proofs.CallBuilders.{areBytes, bytes-by-test, sound-by-test, asking, askingTwo, rosterOf, fromAt, from, make-in-range, tick-at-in-range, tick-in-range, from-at-in-range, from-in-range, tableBuffer, replyBuffer, freshBytes, along-calls, since-stamp}
+use Rattle.claims.proofs.LiveAge.SlotSteps.{same-self}
 
 -- of the entries that agree with a tally as many pass a test
 as-many-by : (p : Holding → Bool) (b : List ℕ) (y : _) (g : Agrees b y) → count (holdings (readTable b)) p ≡ count (y .holdings) p
@@ -77,7 +84,7 @@ constant-reply r =
 says-full : Demand3 saysFull → ⊥
 unfolding all-definitions
 says-full d =
-    let h = along-datagrams saysFull 1 [] d refl refl (stranger ∷ []) (stranger-in-range, tt) .0 in
+    let h = along-calls saysFull 1 [] d refl refl (serving stranger ∷ []) (stranger-in-range, tt) .0 in
     let o = h .replied refl .options refl 0 (lit< tt) in
     ⊎-elim (λ h. absurd (omega (arith, h))) (λ h. absurd (omega (arith, h .1))) (o .fullExactly .0 refl .1)
 
@@ -85,14 +92,14 @@ says-full d =
 leaves-table : Demand3 leavesTable → ⊥
 unfolding all-definitions
 leaves-table d =
-    let h = along-datagrams leavesTable 1 [] d refl refl (stranger ∷ []) (stranger-in-range, tt) .0 in
+    let h = along-calls leavesTable 1 [] d refl refl (serving stranger ∷ []) (stranger-in-range, tt) .0 in
     let z : _≡_ {A = ℕ} 0 1 = as-many _ _ (h .agrees) in
     absurd (omega arith)
 
 grants-unstored : Demand3 grantsUnstored → ⊥
 unfolding all-definitions
 grants-unstored d =
-    let h = along-datagrams grantsUnstored 1 [] d refl refl (stranger ∷ []) (stranger-in-range, tt) .0 in
+    let h = along-calls grantsUnstored 1 [] d refl refl (serving stranger ∷ []) (stranger-in-range, tt) .0 in
     let z : _≡_ {A = ℕ} 0 1 = as-many _ _ (h .agrees) in
     absurd (omega arith)
 
@@ -100,7 +107,7 @@ grants-unstored d =
 copies-first : Demand3 copiesFirst → ⊥
 unfolding all-definitions
 copies-first d =
-    let h = along-datagrams copiesFirst 1 [] d refl refl (from 9 1 askingTwo ∷ []) (from-in-range 9 1 askingTwo (lit< tt) (lit< tt) refl, tt) .0 in
+    let h = along-calls copiesFirst 1 [] d refl refl (serving (from 9 1 askingTwo) ∷ []) (from-in-range 9 1 askingTwo (lit< tt) (lit< tt) refl, tt) .0 in
     let z : _≡_ {A = ℕ} 0 5 = h .replied refl .options refl 1 (lit< tt) .error in
     absurd (omega arith)
 
@@ -108,7 +115,7 @@ copies-first d =
 grants-if-free : Demand3 grantsIfFree → ⊥
 unfolding all-definitions
 grants-if-free d =
-    let h = along-datagrams grantsIfFree 1 (rosterOf 7 1 1) d refl refl (stranger ∷ []) (stranger-in-range, tt) .0 in
+    let h = along-calls grantsIfFree 1 (rosterOf 7 1 1) d refl refl (serving stranger ∷ []) (stranger-in-range, tt) .0 in
     let o = h .replied refl .options refl 0 (lit< tt) in
     let z : _≡_ {A = ℕ} 0 1 = o .fullExactly .1 (record { setup = refl; unheld = refl }, inr (omega arith, omega arith)) in
     absurd (omega arith)
@@ -118,7 +125,7 @@ counts-by-port : Demand3 countsByPort → ⊥
 unfolding all-definitions
 counts-by-port d =
     let q = asking 0 3600 in
-    let h = along-datagrams countsByPort 2 (rosterOf 7 0 1) d refl refl (from 7 1 q ∷ from 7 2 q ∷ [])
+    let h = along-calls countsByPort 2 (rosterOf 7 0 1) d refl refl (serving (from 7 1 q) ∷ serving (from 7 2 q) ∷ [])
     (from-in-range 7 1 q (lit< tt) (lit< tt) refl, (from-in-range 7 2 q (lit< tt) (lit< tt) refl, tt)) .1 .0 in
     let o = h .replied refl .options refl 0 (lit< tt) in
     let z : _≡_ {A = ℕ} 0 1 = o .fullExactly .1 (record { setup = refl; unheld = refl }, inl (omega arith)) in
@@ -192,7 +199,7 @@ again-in-range = from-at-in-range 40 9 1 (asking 0 3600) (lit< tt) (lit< tt) (li
 repeats-granted : Demand3 repeatsGranted → ⊥
 unfolding all-definitions again
 repeats-granted d =
-    let h = along-datagrams repeatsGranted 1 [] d refl refl (stranger ∷ again ∷ []) (stranger-in-range, (again-in-range, tt)) .1 .0 in
+    let h = along-calls repeatsGranted 1 [] d refl refl (serving stranger ∷ serving again ∷ []) (stranger-in-range, (again-in-range, tt)) .1 .0 in
     let z : _≡_ {A = ℕ} 3600 3560 = h .replied refl .options refl 0 (lit< tt) .lease in
     absurd (omega arith)
 
@@ -200,7 +207,7 @@ repeats-granted d =
 restamps-on-repeat : Demand3 restampsOnRepeat → ⊥
 unfolding all-definitions again
 restamps-on-repeat d =
-    let h = along-datagrams restampsOnRepeat 1 [] d refl refl (stranger ∷ again ∷ []) (stranger-in-range, (again-in-range, tt)) .1 .0 in
+    let h = along-calls restampsOnRepeat 1 [] d refl refl (serving stranger ∷ serving again ∷ []) (stranger-in-range, (again-in-range, tt)) .1 .0 in
     let z : _≡_ {A = ℕ} 0 1 = as-many-by (λ h. eqb (h .age) 40) _ _ (h .agrees) in
     absurd (omega arith)
 
@@ -209,7 +216,7 @@ sent-less-age : Demand3 sentLessAge → ⊥
 unfolding all-definitions
 sent-less-age d =
     let c = fromAt 45 9 1 (asking 7 3560) in
-    let h = along-datagrams sentLessAge 1 [] d refl refl (stranger ∷ c ∷ [])
+    let h = along-calls sentLessAge 1 [] d refl refl (serving stranger ∷ serving c ∷ [])
     (stranger-in-range, (from-at-in-range 45 9 1 (asking 7 3560) (lit< tt) (lit< tt) (lit< tt) refl, tt)) .1 .0 in
     let z : _≡_ {A = ℕ} 3515 3555 = h .replied refl .options refl 0 (lit< tt) .lease in
     absurd (omega arith)
@@ -269,23 +276,147 @@ any-up-to-granted k =
 
 -- ---- THE CLOCK
 
--- a tick 10 seconds back: 3,560 was told, and 3,570 remain
-counts-back : ToldLeases countsBack → ⊥
+-- a table made at the first second, and a tick k seconds before it, around the end of the cycle: the place that a tick leaves is the tally's
+placed-after : (s : Server) → Demand3 s → (k : ℕ) → 604800 - k < 2 ^ 32 → 0 ≡ s .make (makeAt 0 0 []) (tableBuffer 1) .number
+    → Agrees (s .tick (tickAt 1023 (604800 - k)) (freshBytes s 1 []) .table)
+    (tallyAfter (length (tableBuffer 1)) (beginTally (length (tableBuffer 1)) (makeAt 0 0 [])) (ticking (tickAt 1023 (604800 - k))))
+unfolding every
+placed-after s d k h made =
+    along-calls s 1 [] d refl made (ticking (tickAt 1023 (604800 - k)) ∷ []) (tick-at-in-range 1023 (604800 - k) (lit< tt) h, tt) .0 .agrees
+
+place-read : (b : List ℕ) (y : Tally) → Agrees b y → readTable b .clock .place ≡ y .place
+place-read b y g = ap (λ (t : Table). t .clock .place) (read-stored b (g .stored)) ∙ g .place
+
+-- 61 seconds back: the tally's place is the new one
+freezes-place : Demand3 freezes → ⊥
+unfolding all-definitions
+freezes-place d =
+    let z : _≡_ {A = ℕ} 0 619315139 = place-read _ _ (placed-after freezes d 61 (lit< tt) refl) in
+    absurd (omega arith)
+
+waits-for-61 : Demand3 waitsFor61 → ⊥
+unfolding all-definitions
+waits-for-61 d =
+    let z : _≡_ {A = ℕ} 0 619315139 = place-read _ _ (placed-after waitsFor61 d 61 (lit< tt) refl) in
+    absurd (omega arith)
+
+-- 60 seconds back: it is the old one
+keeps-always-place : Demand3 keepsAlways → ⊥
+unfolding all-definitions
+keeps-always-place d =
+    let z : _≡_ {A = ℕ} 619315140 0 = place-read _ _ (placed-after keepsAlways d 60 (lit< tt) refl) in
+    absurd (omega arith)
+
+-- a setup, 60 seconds back and 60 on: the entry's age is 60, and the calls since its stamp add 0
+backAndForth : List Call
+backAndForth = serving stranger ∷ ticking (tickAt 1023 604740) ∷ ticking (tickAt 0 0) ∷ []
+
+strangersEntry : Entry
+strangersEntry =
+    record { established = false; address = 9; port = 1; number = 7; lease = 3600; stamp = 0; qtype = 12; qclass = 1; name = 1 ∷ 97 ∷ 0 ∷ [] }
+
+-- of a call and two ticks the call alone can be the datagram
+tailOf : List Event → List Event
+tailOf [] = []
+tailOf (x ∷ xs) = xs
+
+headOr : Event → List Event → Event
+headOr e [] = e
+headOr e (x ∷ xs) = x
+
+only-first : (e : Event) (c c2 : TickCall) (k k2 f f2 : ℕ) (b b2 : List ℕ) (earlier rest : List Event) (g : Event)
+    → earlier ++ (g ∷ rest) ≡ e ∷ ticked c k f b ∷ ticked c2 k2 f2 b2 ∷ [] → AnsweredDatagram g
+    → (earlier ++ (g ∷ []) ≡ e ∷ []) × (rest ≡ ticked c k f b ∷ ticked c2 k2 f2 b2 ∷ [])
+unfolding tailOf headOr
+only-first e c c2 k k2 f f2 b b2 [] rest g p a = (ap (λ (x : List Event). headOr g x ∷ []) p, ap tailOf p)
+only-first e c c2 k k2 f f2 b b2 (x ∷ []) rest g p a = absurd (subst AnsweredDatagram (ap (λ (l : List Event). headOr g (tailOf l)) p) a)
+only-first e c c2 k k2 f f2 b b2 (x ∷ x2 ∷ []) rest g p a =
+    absurd (subst AnsweredDatagram (ap (λ (l : List Event). headOr g (tailOf (tailOf l))) p) a)
+only-first e c c2 k k2 f f2 b b2 (x ∷ x2 ∷ x3 ∷ xs) rest g p a =
+    absurd (omega (arith, length-append xs (g ∷ rest), ap (λ (l : List Event). length (tailOf (tailOf (tailOf l)))) p))
+
+keeps-always-age : LiveAge keepsAlways → ⊥
+unfolding all-definitions backAndForth strangersEntry
+keeps-always-age k =
+    let size = length (tableBuffer 1) in
+    let y = beginTally size (makeAt 0 0 []) in
+    let since = since-stamp keepsAlways 1 [] k refl refl backAndForth
+    (stranger-in-range, (tick-at-in-range 1023 604740 (lit< tt) (lit< tt), (tick-in-range, tt))) 0 strangersEntry refl in
+    let only = only-first _ _ _ _ _ _ _ _ _ (since .earlier) (since .rest) (since .stamping) (since .split) (since .answered) in
+    let z : _≡_ {A = ℕ} 60 0 =
+    since .age
+    ∙ ap (λ (l : List Event). addedAlong size (tallyAlong size y (map callOf l)) (map callOf (since .rest))) (only .0)
+    ∙ ap (λ (l : List Event). addedAlong size (tallyAlong size y (serving stranger ∷ [])) (map callOf l)) (only .1) in
+    absurd (omega arith)
+
+-- an entry of age 140, and a tick 70 seconds back
+abbrev agedEntry : Entry
+agedEntry = onlyEntry false 3600 0
+
+abbrev agedBytes : List ℕ
+agedBytes = tableBytes (record { clock = record { place = 100; running = 140 }; roster = []; slots = held agedEntry ∷ [] })
+
+-- what the claim says of it
+ticked-back : (s : Server) → Ticking s → s .tick (tickAt 0 30) agedBytes .number ≡ 0
+    → TickDone (tickAt 0 30) agedBytes (s .tick (tickAt 0 30) agedBytes .table) (s .tick (tickAt 0 30) agedBytes .freed)
+unfolding all-definitions
+ticked-back s k answered = k (tickAt 0 30) agedBytes (tick-at-in-range 0 30 (lit< tt) (lit< tt)) (sound-by-test agedBytes refl refl) answered
+
+-- the count stays at 140
+counts-back : Ticking countsBack → ⊥
 unfolding all-definitions
 counts-back k =
-    let e = onlyEntry false 3600 100 in
-    let b = tableBytes (record { clock = record { place = 100; running = 140 }; roster = []; slots = held e ∷ [] }) in
-    let a = countsBack .tick (tickAt 0 90) b in
-    let r = k .right b (ticked (tickAt 0 90) (a .number) (a .freed) (a .table) ∷ []) 0 e e (sound-by-test b refl refl)
-    (tick-at-in-range 90 (lit< tt), tt) (record { number = refl; freed = refl; table = refl }, tt) refl
-    (record { entry = e; here = refl; number = refl; address = refl; port = refl; name = refl; qtype = refl; qclass = refl; lease = refl; stamp = refl }, tt)
+    let z : _≡_ {A = ℕ} 70 140 = ap (λ (c : Clock). c .running) (ticked-back countsBack k refl .moved .clock) in
+    absurd (omega arith)
+
+-- and the entry stays
+ends-on-set-back : Ticking endsOnSetBack → ⊥
+unfolding all-definitions
+ends-on-set-back k = not-held agedEntry (ticked-back endsOnSetBack k refl .moved .kept 0 agedEntry refl (λ h. omega arith))
+
+-- 3,460 was told, and 3,530 would remain
+counts-back-told : ToldLeases countsBack → ⊥
+unfolding all-definitions
+counts-back-told k =
+    let e = agedEntry in
+    let a = countsBack .tick (tickAt 0 30) agedBytes in
+    let r = k .right agedBytes (ticked (tickAt 0 30) (a .number) (a .freed) (a .table) ∷ []) 0 e e (sound-by-test agedBytes refl refl)
+    (tick-at-in-range 0 30 (lit< tt) (lit< tt), tt) (record { number = refl; freed = refl; table = refl }, tt) refl
+    (record { kept = same-self 0 e (readTable (a .table)) refl; lease = refl }, tt)
     refl (record { address = 5; port = 1 }) (record { name = 1 ∷ 97 ∷ 0 ∷ []; qtype = 12; qclass = 1 })
-    (record { version = 1; opcode = 1; error = 0; number = 7; lease = 3560 })
+    (record { version = 1; opcode = 1; error = 0; number = 7; lease = 3460 })
     (record { version = refl; opcode = refl; error = refl; number = λ h. omega arith })
     (record { address = refl; port = refl; name = refl; qtype = refl; qclass = refl }) refl refl in
     absurd (omega (arith, r .least))
 
--- ---- ALL NINETEEN
+-- THE CLOCK ALONE, from place 100 and count 7
+
+-- set back by 100 seconds and 10 on: the count is 17
+stands-still : Resumes (moveBack stands) → ⊥
+unfolding all-definitions
+stands-still r =
+    let z : _≡_ {A = ℕ} 7 17 =
+    ap (λ (c : Clock). c .running) (r .setBack (record { place = 100; running = 7 }) 0 10 (lit< tt) (lit< tt) (lit< tt) (lit< tt) (omega arith) (omega arith)) in
+    absurd (omega arith)
+
+-- back by 60 seconds and on: the count is 7 still
+keeps-little : Resumes (moveBack setTo) → ⊥
+unfolding all-definitions
+keeps-little r =
+    let z : _≡_ {A = ℕ} 67 7 =
+    ap (λ (c : Clock). c .running) (r .wentBack (record { place = 100; running = 7 }) 40 60 60 (lit< tt) (lit< tt) (lit< tt) (lit< tt) refl (omega arith) (omega arith) (omega arith)) in
+    absurd (omega arith)
+
+-- the samples of 61 seconds back, and of 1
+stands-sample : ClockSamples (moveBack stands) → ⊥
+unfolding all-definitions
+stands-sample r = let z : _≡_ {A = ℕ} 1000 939 = ap (λ (c : Clock). c .place) (r .1 .1 .1 .0) in absurd (omega arith)
+
+keeps-sample : ClockSamples (moveBack setTo) → ⊥
+unfolding all-definitions
+keeps-sample r = let z : _≡_ {A = ℕ} 999 1000 = ap (λ (c : Clock). c .place) (r .1 .0) in absurd (omega arith)
+
+-- ---- ALL TWENTY-THREE
 
 pub refuted : Refuted
 refuted =
@@ -308,7 +439,13 @@ refuted =
       anyUpToGranted = any-up-to-granted;
       openBelow = open-below;
       sentLessAge = sent-less-age;
-      countsBack = counts-back;
+      freezes = freezes-place;
+      keepsAlways = (keeps-always-age, keeps-always-place);
+      waitsFor61 = waits-for-61;
+      countsBack = (counts-back, counts-back-told);
+      endsOnSetBack = ends-on-set-back;
+      resumes = (stands-still, keeps-little);
+      clockSamples = (stands-sample, keeps-sample);
     }
 
 -- ---- THE WRONG SERVERS' COMMON PARTS ARE THE MODEL'S
@@ -342,6 +479,11 @@ serve-by (suc k) c b given = refl
 pub serve-right : (c : ServeCall) (b given : List ℕ) → serverOf right .serve c b given ≡ serve c b given
 unfolding serve
 serve-right c b given = serve-by (serveRefusal c b) c b given
+
+-- with the model's rule for a step back, the clock moves as the model's
+pub back-right : (c : Clock) (to : ℕ) (z : ℤ) → onBack (λ c to k. cond (leb k slack) (stands c to k) (setTo c to k)) c to z ≡ moved c to z
+back-right c to (pos n) = refl
+back-right c to (negsuc n) = refl
 
 -- with the model's test and the model's answer, a response is the model's, and a setup is with the model's challenge of an entry that is there
 pub response-right : (k : Kind) (s : Sender) (r : ℕ) (q : Question) (o : LlqOption) (t : Table)

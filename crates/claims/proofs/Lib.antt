@@ -25,4 +25,5 @@ pub mod TableLayout
 pub mod OneSlot
 pub mod Contracts
 pub mod Step
+pub mod Resumes
 pub mod Claims

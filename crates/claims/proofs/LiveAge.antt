@@ -1,152 +1,129 @@
 -- A live entry's age, of the model's server. Assumes nothing.
-use Prim.Native.Nat.{ℕ, zero, suc, _+_, _*_, _%_, _^_, _≤_, _<_}
-use native.Mathlib.Nat.{add-assoc}
+pub mod AgeSteps
+pub mod SlotSteps
+use Prim.Native.Nat.{ℕ, _+_, _*_}
 use native.Mathlib.Omega.{arith}
 use mathlib.Core.Path.{_≡_, refl, sym, ap, _∙_, subst}
 use mathlib.Core.Bool.{cond}
-use mathlib.Core.List.{List, [], _∷_}
+use mathlib.Core.List.{List, [], _∷_, map}
+use mathlib.Core.Logic.{_⊎_, inl, inr}
 use lib.ListN.{length}
-use lib.Dec.{eqb, ltb, eqb·suc-zero}
-use borrow.Author.Tests.{ltb-true}
-use Rattle.model.specs.Lists.{count, any}
+use lib.Dec.{eqb}
 use Rattle.model.specs.Clock.{ageAt}
-use Rattle.model.specs.Query.{qdcount, matched}
-use Rattle.model.specs.Table.{Entry, held, Table, tableBytes, readTable, sizeOf}
-use Rattle.model.specs.Rules.{holdings}
-use Rattle.model.specs.Sound.{Sound, FitsEntry, FitsSlot, SoundBytes}
+use Rattle.model.specs.Table.{Entry, held, readTable}
 use Rattle.model.specs.Serve.{slotOf}
-use Rattle.model.specs.Calls.{MakeCall, TickCall, ServeCall}
+use Rattle.model.specs.Calls.{MakeCall, Made, makeRefusal, madeBy}
 use Rattle.model.specs.Meets.{model}
-use Rattle.model.proofs.ListLaws.{either, every-none}
-use Rattle.model.proofs.ClockLaws.{fresh-age, ages}
-use Rattle.model.proofs.StepLaws.{fits-slot-of, young}
-use Rattle.model.proofs.Meaning.{read-stored}
-use Rattle.model.proofs.HoldingLaws.{count-held, held-obeys}
-use Rattle.claims.specs.Tally.{Tally, making, ticking, serving, passed, judged, moveTally, tallyAfter}
-use Rattle.claims.specs.Events.{Event, made, ticked, served, callOf, numberOf, tableOf, Happens, Trace, InRange, AllInRange}
-use Rattle.claims.specs.LiveAge.{stepIn, stepsAlong, leftBy, Stamped, StampedAlong, ageIn, LiveAge}
-use Rattle.claims.specs.AnySound.{tallyOf}
-use Rattle.claims.proofs.Relation.MoveKeeps.{passed-less}
-use Rattle.claims.proofs.Demand3.TallyLaws.{before-running}
-use Rattle.claims.proofs.Relation.TableTally.{related-read}
-use Rattle.claims.proofs.Demand3.CallSteps.{Invariant, kept-back, next, after-is, kept-step, number-step}
+use Rattle.model.proofs.ClockLaws.{fresh-age}
+use Rattle.model.proofs.CallLaws.{make-number, make-answered}
+use Rattle.claims.specs.Tally.{Tally, passed, judged, beginTally, tallyAfter}
+use Rattle.claims.specs.Events.{Event, made, ticked, served, callOf, numberOf, tableOf, Happens, Trace, MakeInRange, AllInRange}
+use Rattle.claims.specs.LiveAge.{stepIn, stepsAlong, leftBy, Stamped, StampedAlong, ageIn, addedBy, addedAlong, SameStamp, SameStampAlong, AnsweredDatagram, Since, LiveAge}
+use Rattle.claims.proofs.Demand3.CallSteps.{Invariant, make-kept, kept-step, number-step}
+use Rattle.claims.proofs.LiveAge.AgeSteps.{read-place, some-held, ages-along, grows, younger, sound-along}
+use Rattle.claims.proofs.LiveAge.SlotSteps.{same-self, same-through, call-step}
 
--- an entry of a sound table may grow older by a step in one sum
-not-wrapping : (t : Table) → Sound t → (j : ℕ) (e : Entry) → slotOf t j ≡ held e → (d : ℕ) → d < 309657600
-    → ageAt (t .clock .running) (e .stamp) + d < 2 ^ 32
-not-wrapping t s j e h d l =
-    ltb-true (ageAt (t .clock .running) (e .stamp) + d) (2 ^ 32)
-    (held-obeys (t .clock .running) (t .slots) j e (λ h. ltb (h .age + d) (2 ^ 32)) h
-    (every-none (λ h. ltb (h .age + d) (2 ^ 32)) (holdings t) (young t d l s)))
+-- BY THE CALLS ALONE: a call adds what the places of the table say
+added-is : (size : ℕ) (y : Tally) (e : Event) → numberOf e ≡ judged size (callOf e) → stepIn (y .place) e ≡ addedBy size y (callOf e)
+added-is size y (made c k after) n = refl
+added-is size y (ticked c k freed after) n = ap (λ (z : ℕ). cond (eqb z 0) (passed (y .place) (c .week * 604800 + c .second)) 0) n
+added-is size y (served c lent k m after left) n = ap (λ (z : ℕ). cond (eqb z 0) (passed (y .place) (c .week * 604800 + c .second)) 0) n
 
--- THE BYTES AND THE TALLY
+steps-added : (size : ℕ) (b : List ℕ) (y : Tally) (es : List Event) → AllInRange es → Invariant size b y → Trace model b es
+    → stepsAlong b es ≡ addedAlong size y (map callOf es)
+steps-added size b y [] ranges x h = refl
+steps-added size b y (e ∷ es) ranges x h =
+    let one : stepIn (readTable b .clock .place) e ≡ addedBy size y (callOf e) =
+    ap (λ (z : ℕ). stepIn z e) (read-place x) ∙ added-is size y e (number-step size b y e x (h .0)) in
+    let more = steps-added size (tableOf e) (tallyAfter size y (callOf e)) es (ranges .1) (kept-step size b y e (ranges .0) x (h .0)) (h .1) in
+    omega (arith, one, more)
 
-module _ {size : ℕ} {b : List ℕ} {y : Tally} (x : Invariant size b y) where
-  read-place : readTable b .clock .place ≡ y .place
-  read-place = ap (λ (t : Table). t .clock .place) (kept-back x) ∙ x .related .place
+-- the same entry has the same stamp
+pub stamped : (j : ℕ) (e : Entry) (b : List ℕ) → SameStamp j e (readTable b) → Stamped j (e .stamp) b
+stamped j e b k = record { entry = k .entry; here = k .here; stamped = k .stamp }
 
-  read-running : readTable b .clock .running ≡ y .running
-  read-running = ap (λ (t : Table). t .clock .running) (kept-back x) ∙ x .related .running
+pub stamped-along : (j : ℕ) (e : Entry) (es : List Event) → SameStampAlong j e es → StampedAlong j (e .stamp) es
+stamped-along j e [] all = tt
+stamped-along j e (x ∷ xs) all = (stamped j e (tableOf x) (all .0), stamped-along j e xs (all .1))
 
-  running-less : y .running < 2 ^ 32
-  running-less = omega (arith, x .related .running, x .related .fits .running)
+-- AN ENTRY AT THE END: it was there at the start, with its stamp, or a datagram of the list stamped it
+module _ (size j : ℕ) (e : Entry) where
+  abbrev There : List ℕ → List Event → Type 0
+  There b es = SameStamp j e (readTable b) × SameStampAlong j e es
 
-  module _ (j stamp : ℕ) (h : Stamped j stamp b) where
-    held-here : slotOf (x .table) j ≡ held (h .entry)
-    held-here = ap (λ (t : Table). slotOf t j) (sym (kept-back x)) ∙ h .here
+  -- the first call stamped it
+  stamped-by : (b : List ℕ) (y : Tally) (x : Event) (es : List Event) → AllInRange (x ∷ es) → Invariant size b y → Trace model b (x ∷ es)
+      → There (tableOf x) es → AnsweredDatagram x → e .stamp ≡ readTable (tableOf x) .clock .running → slotOf (readTable (leftBy (tableOf x) es)) j ≡ held e
+      → Since size y b (x ∷ es) j e
+  stamped-by b y x es ranges v h there answered z w =
+      let v2 = kept-step size b y x (ranges .0) v (h .0) in
+      let y2 = tallyAfter size y (callOf x) in
+      let aged = ages-along size (tableOf x) y2 es j (e .stamp) (ranges .1) v2 (h .1) (stamped j e (tableOf x) (there .0)) (stamped-along j e es (there .1)) in
+      let start : ageIn (tableOf x) (e .stamp) ≡ 0 = ap (λ (r : ℕ). ageAt (readTable (tableOf x) .clock .running) r) z ∙ fresh-age (readTable (tableOf x) .clock .running) in
+      let sum : ageIn (leftBy (tableOf x) es) (e .stamp) ≡ addedAlong size y2 (map callOf es) =
+      aged ∙ ap (λ (a : ℕ). a + stepsAlong (tableOf x) es) start ∙ omega (arith, steps-added size (tableOf x) y2 es (ranges .1) v2 (h .1)) in
+      let live = younger (leftBy (tableOf x) es) (sound-along size (tableOf x) y2 es (ranges .1) v2 (h .1)) j e w in
+      record {
+        earlier = [];
+        stamping = x;
+        rest = es;
+        split = refl;
+        answered = answered;
+        here = there .0;
+        stamp = z;
+        kept = there .1;
+        age = sum;
+        live = omega (arith, sum, live);
+      }
 
-    stamp-less : stamp < 2 ^ 32
-    stamp-less =
-        let f : FitsEntry (h .entry) = subst FitsSlot held-here (fits-slot-of (x .table) j (x .related .fits)) in
-        omega (arith, f .stamp, h .stamped)
+  -- one more call before them
+  behind-one : (b : List ℕ) (y : Tally) (x : Event) (es : List Event) → Since size (tallyAfter size y (callOf x)) (tableOf x) es j e → Since size y b (x ∷ es) j e
+  behind-one b y x es s =
+      record {
+        earlier = x ∷ s .earlier;
+        stamping = s .stamping;
+        rest = s .rest;
+        split = ap (λ (l : List Event). x ∷ l) (s .split);
+        answered = s .answered;
+        here = s .here;
+        stamp = s .stamp;
+        kept = s .kept;
+        age = s .age;
+        live = s .live;
+      }
 
-    stamp-grows : (d : ℕ) → d < 309657600 → ageAt (y .running) stamp + d < 2 ^ 32
-    stamp-grows d l =
-        subst (λ (r : ℕ). ageAt r stamp + d < 2 ^ 32) (x .related .running)
-        (subst (λ (z : ℕ). ageAt (x .table .clock .running) z + d < 2 ^ 32) (h .stamped)
-        (not-wrapping (x .table) (x .related .sound) j (h .entry) held-here d l))
+  at-end : (b : List ℕ) (y : Tally) (es : List Event) → AllInRange es → Invariant size b y → Trace model b es → slotOf (readTable (leftBy b es)) j ≡ held e
+      → There b es ⊎ Since size y b es j e
+  at-end b y [] ranges v h w = inl (same-self j e (readTable b) w, tt)
+  at-end b y (x ∷ es) ranges v h w =
+      go (at-end (tableOf x) (tallyAfter size y (callOf x)) es (ranges .1) (kept-step size b y x (ranges .0) v (h .0)) (h .1) w)
+    where
+      on : (t : There (tableOf x) es) → SameStamp j (t .0 .entry) (readTable b) ⊎ (AnsweredDatagram x × (t .0 .entry .stamp ≡ readTable (tableOf x) .clock .running))
+          → There b (x ∷ es) ⊎ Since size y b (x ∷ es) j e
+      on t (inl k) = inl (same-through j e (readTable (tableOf x)) (readTable b) (t .0) k, t)
+      on t (inr k) = inr (stamped-by b y x es ranges v h t (k .0) (sym (t .0 .stamp) ∙ k .1) w)
 
-    some-held : 1 ≤ count (y .holdings) any
-    some-held =
-        omega (arith, x .related .entries any, count-held (x .table .clock .running) (x .table .slots) j (h .entry) any held-here refl)
+      go : There (tableOf x) es ⊎ Since size (tallyAfter size y (callOf x)) (tableOf x) es j e → There b (x ∷ es) ⊎ Since size y b (x ∷ es) j e
+      go (inl t) = on t (call-step size b y v j (t .0 .entry) x (ranges .0) (h .0) (t .0 .here))
+      go (inr s) = inr (behind-one b y x es s)
 
--- ONE CALL
+-- from a fresh table on there was none at the start
+summed : (before after : List ℕ) (c : MakeCall) (es : List Event) → MakeInRange c → AllInRange es → Happens model before (made c 0 after) → Trace model after es
+    → (j : ℕ) (e : Entry) → slotOf (readTable (leftBy after es)) j ≡ held e → Since (length before) (beginTally (length before) c) after es j e
+summed before after c es range ranges h trace j e w = go (at-end (length before) j e after (beginTally (length before) c) es ranges x trace w)
+  where
+    z : makeRefusal c (length before) ≡ 0
+    z = sym (h .number ∙ make-number c before)
 
--- the tally's running count after a tick or a datagram of number k
-tick-running : (size : ℕ) (y : Tally) (c : TickCall) (k : ℕ) → y .running < 2 ^ 32
-    → next k size y (ticking c) .running ≡ (y .running + cond (eqb k 0) (passed (y .place) (c .week * 604800 + c .second)) 0) % 4294967296
-unfolding moveTally
-tick-running size y c zero h = refl
-tick-running size y c (suc k) h = rw (eqb·suc-zero k) (omega arith)
+    m : after ≡ madeBy 0 c before .table
+    m = h .table ∙ ap (λ (a : Made). a .table) (make-answered c before z)
 
-serve-running : (size : ℕ) (y : Tally) (c : ServeCall) (k : ℕ) → y .running < 2 ^ 32
-    → next k size y (serving c) .running ≡ (y .running + cond (eqb k 0) (passed (y .place) (c .week * 604800 + c .second)) 0) % 4294967296
-serve-running size y c zero h = before-running c y (cond (matched (c .datagram)) (qdcount (c .datagram)) 0)
-serve-running size y c (suc k) h = rw (eqb·suc-zero k) (omega arith)
+    x : Invariant (length before) after (beginTally (length before) c)
+    x = subst (λ (a : List ℕ). Invariant (length before) a (beginTally (length before) c)) (sym m) (make-kept c before range z)
 
-step-less : (k from to : ℕ) → cond (eqb k 0) (passed from to) 0 < 309657600
-step-less k from to = either (λ (d : ℕ). d < 309657600) (eqb k 0) (passed-less from to) (omega arith)
-
--- an answered making leaves no entry
-made-stays : (size : ℕ) (y : Tally) (c : MakeCall) (k : ℕ) → 1 ≤ count (next k size y (making c) .holdings) any → next k size y (making c) .running ≡ y .running
-made-stays size y c zero h = absurd (omega arith)
-made-stays size y c (suc k) h = rw (eqb·suc-zero k)
-
--- the count that a call leaves
-running-step : (size : ℕ) (y : Tally) (e : Event) → y .running < 2 ^ 32 → numberOf e ≡ judged size (callOf e)
-    → 1 ≤ count (tallyAfter size y (callOf e) .holdings) any
-    → tallyAfter size y (callOf e) .running ≡ (y .running + stepIn (y .place) e) % 4294967296
-running-step size y (made c k after) h n some =
-    let e = after-is size y (making c) k (sym n) in
-    ap (λ (z : Tally). z .running) e ∙ made-stays size y c k (subst (λ (z : Tally). 1 ≤ count (z .holdings) any) e some) ∙ omega arith
-running-step size y (ticked c k freed after) h n some =
-    ap (λ (z : Tally). z .running) (after-is size y (ticking c) k (sym n)) ∙ tick-running size y c k h
-running-step size y (served c lent k m after left) h n some =
-    ap (λ (z : Tally). z .running) (after-is size y (serving c) k (sym n)) ∙ serve-running size y c k h
-
-stepIn-less : (place : ℕ) (e : Event) → stepIn place e < 309657600
-stepIn-less place (made c k after) = omega arith
-stepIn-less place (ticked c k freed after) = step-less k place (c .week * 604800 + c .second)
-stepIn-less place (served c lent k m after left) = step-less k place (c .week * 604800 + c .second)
-
-age-step : (size : ℕ) (b : List ℕ) (y : Tally) (e : Event) (j stamp : ℕ) → InRange (callOf e) → Invariant size b y → Happens model b e
-    → Stamped j stamp b → Stamped j stamp (tableOf e)
-    → ageIn (tableOf e) stamp ≡ ageIn b stamp + stepIn (readTable b .clock .place) e
-age-step size b y e j stamp range x h here there =
-    let w = kept-step size b y e range x h in
-    let r = running-step size y e (running-less x) (number-step size b y e x h) (some-held w j stamp there) in
-    let d = stepIn (y .place) e in
-    let grown = ages (y .running) stamp d (running-less x) (stamp-less x j stamp here) (stamp-grows x j stamp here d (stepIn-less (y .place) e)) in
-    ap (λ (z : ℕ). ageAt z stamp) (read-running w ∙ r)
-    ∙ grown
-    ∙ ap (λ (z : ℕ). ageAt z stamp + stepIn (y .place) e) (sym (read-running x))
-    ∙ ap (λ (z : ℕ). ageIn b stamp + stepIn z e) (sym (read-place x))
-
--- ALONG THE LIST
-
-ages-along : (size : ℕ) (b : List ℕ) (y : Tally) (es : List Event) (j stamp : ℕ) → AllInRange es → Invariant size b y → Trace model b es
-    → Stamped j stamp b → StampedAlong j stamp es
-    → ageIn (leftBy b es) stamp ≡ ageIn b stamp + stepsAlong b es
-ages-along size b y [] j stamp ranges x h here all = omega arith
-ages-along size b y (e ∷ es) j stamp ranges x h here all =
-    let one = age-step size b y e j stamp (ranges .0) x (h .0) here (all .0) in
-    let more = ages-along size (tableOf e) (tallyAfter size y (callOf e)) es j stamp (ranges .1) (kept-step size b y e (ranges .0) x (h .0)) (h .1) (all .0) (all .1) in
-    more ∙ ap (λ (a : ℕ). a + stepsAlong (tableOf e) es) one ∙ add-assoc (ageIn b stamp) (stepIn (readTable b .clock .place) e) (stepsAlong (tableOf e) es)
-
--- a sound table is kept with itself as the tally
-pub kept-self : (b : List ℕ) → SoundBytes b → Invariant (sizeOf (length (readTable b .slots))) b (tallyOf (readTable b))
-kept-self b s =
-    record {
-      table = readTable b;
-      bytes = ap tableBytes (read-stored b s) ∙ s .bytes;
-      related = related-read b s;
-      room = refl;
-    }
-
-grows : (b : List ℕ) (es : List Event) (j stamp : ℕ) → SoundBytes b → AllInRange es → Trace model b es → Stamped j stamp b → StampedAlong j stamp es
-    → ageIn (leftBy b es) stamp ≡ ageIn b stamp + stepsAlong b es
-grows b es j stamp s ranges h here all =
-    ages-along (sizeOf (length (readTable b .slots))) b (tallyOf (readTable b)) es j stamp ranges (kept-self b s) h here all
+    go : There (length before) j e after es ⊎ Since (length before) (beginTally (length before) c) after es j e → Since (length before) (beginTally (length before) c) after es j e
+    go (inl t) = absurd (omega (arith, some-held x j (e .stamp) (stamped j e after (t .0))))
+    go (inr s) = s
 
 pub live-age : LiveAge model
 live-age =
@@ -156,4 +133,5 @@ live-age =
           let start : ageIn b stamp ≡ 0 =
           ap (λ (z : ℕ). ageAt (readTable b .clock .running) z) e ∙ fresh-age (readTable b .clock .running) in
           grows b es j stamp s ranges h here all ∙ omega arith;
+      summed = summed;
     }

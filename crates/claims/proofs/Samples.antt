@@ -1,14 +1,22 @@
 -- The samples and the pins hold of the model, by computing. Assumes nothing.
 use mathlib.Core.Path.{refl}
+use Rattle.model.specs.Clock.{advance}
 use Rattle.model.specs.Meets.{model}
-use Rattle.claims.specs.Samples.{Samples, SpanSamples}
+use Rattle.claims.specs.Samples.{Samples, byTally, ClockSamples, SpanSamples}
 use Rattle.claims.specs.SoundSamples.{SoundSamples}
 use Rattle.claims.specs.Pins.{Pinned}
-use Rattle.claims.proofs.Definitions.{model-definitions}
+use Rattle.claims.proofs.Definitions.{model-definitions, all-definitions}
 
 pub samples-hold : Samples
 unfolding model-definitions
 samples-hold = (refl, (refl, (refl, (refl, (refl, (refl, (refl, (refl, (refl, (refl, (refl, (refl, (refl, (refl, tt))))))))))))))
+
+pub clock-samples-hold : ClockSamples advance × ClockSamples byTally
+unfolding all-definitions
+clock-samples-hold = (
+  (refl, (refl, (refl, (refl, (refl, (refl, (refl, (refl, (refl, (refl, (refl, (refl, (refl, tt))))))))))))),
+  (refl, (refl, (refl, (refl, (refl, (refl, (refl, (refl, (refl, (refl, (refl, (refl, (refl, tt))))))))))))),
+)
 
 pub span-samples-hold : SpanSamples
 unfolding model-definitions
@@ -26,4 +34,4 @@ sound-samples-hold =
 
 pub pinned : Pinned model
 unfolding model-definitions
-pinned = record { size = refl; made = refl; listed = refl; challenged = refl; acknowledged = refl; renewed = refl; repeated = refl; answeredLate = refl; tooShort = refl; written = refl; readBack = refl }
+pinned = record { size = refl; made = refl; listed = refl; challenged = refl; acknowledged = refl; renewed = refl; repeated = refl; answeredLate = refl; tooShort = refl; written = refl; readBack = refl; setBack = refl }

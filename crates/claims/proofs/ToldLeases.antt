@@ -4,52 +4,34 @@ use native.Mathlib.Omega.{arith}
 use mathlib.Core.Path.{_≡_, refl, sym, _∙_, subst}
 use mathlib.Core.List.{List, [], _∷_}
 use lib.ListN.{length}
-use borrow.Author.Tests.{ltb-true}
 use Rattle.model.specs.Query.{Question, LlqOption}
 use Rattle.model.specs.Table.{Entry, held, readTable, sizeOf}
-use Rattle.model.specs.Sound.{live, SoundBytes}
+use Rattle.model.specs.Sound.{SoundBytes}
 use Rattle.model.specs.Serve.{Sender, slotOf}
 use Rattle.model.specs.Meets.{model}
-use Rattle.model.proofs.Meaning.{read-stored}
-use Rattle.model.proofs.HoldingLaws.{held-obeys, held-inj}
-use Rattle.claims.specs.Tally.{Tally, tallyAfter}
-use Rattle.claims.specs.Events.{Event, callOf, tableOf, Trace, AllInRange}
+use Rattle.model.proofs.HoldingLaws.{held-inj}
+use Rattle.claims.specs.Events.{Event, tableOf, Trace, AllInRange}
 use Rattle.claims.specs.Changes.{Response, Own, ageOf, RightResponse}
-use Rattle.claims.specs.LiveAge.{stepsAlong, leftBy, Stamped, StampedAlong}
+use Rattle.claims.specs.LiveAge.{stepsAlong, leftBy, SameStampAlong}
 use Rattle.claims.specs.AnySound.{tallyOf}
 use Rattle.claims.specs.Repeats.{Remains, SameLease, SameLeaseAlong, ToldLeases}
-use Rattle.claims.proofs.Demand3.CallSteps.{Invariant, kept-stored, kept-step}
-use Rattle.claims.proofs.LiveAge.{kept-self, live-age}
-
--- an entry of a sound table's bytes is younger than its lease
-younger : (b : List ℕ) → SoundBytes b → (j : ℕ) (x : Entry) → slotOf (readTable b) j ≡ held x → ageOf (readTable b .clock .running) x < x .lease
-younger b s j x h =
-    let t = readTable b in
-    let ages = rw (← read-stored b s) at (s .sound .ages) in
-    ltb-true (ageOf (t .clock .running) x) (x .lease) (held-obeys (t .clock .running) (t .slots) j x live h ages)
-
--- the bytes that a list of calls leaves are a sound table's
-sound-along : (size : ℕ) (b : List ℕ) (y : Tally) (es : List Event) → AllInRange es → Invariant size b y → Trace model b es → SoundBytes (leftBy b es)
-sound-along size b y [] ranges x h = kept-stored x
-sound-along size b y (e ∷ es) ranges x h =
-    sound-along size (tableOf e) (tallyAfter size y (callOf e)) es (ranges .1) (kept-step size b y e (ranges .0) x (h .0)) (h .1)
+use Rattle.claims.proofs.LiveAge.AgeSteps.{kept-self, younger, sound-along}
+use Rattle.claims.proofs.LiveAge.SlotSteps.{same-self}
+use Rattle.claims.proofs.LiveAge.{stamped, stamped-along, live-age}
 
 -- THE ENTRY, from the start to the end
 module _ (j : ℕ) (e : Entry) where
   at-start : (b : List ℕ) → slotOf (readTable b) j ≡ held e → SameLease j e b
   at-start b h =
-      record { entry = e; here = h; number = refl; address = refl; port = refl; name = refl; qtype = refl; qclass = refl; lease = refl; stamp = refl }
+      record { kept = same-self j e (readTable b) h; lease = refl }
 
   at-end : (b : List ℕ) (es : List Event) → SameLease j e b → SameLeaseAlong j e es → SameLease j e (leftBy b es)
   at-end b [] k all = k
   at-end b (x ∷ xs) k all = at-end (tableOf x) xs (all .0) (all .1)
 
-  stamped : (b : List ℕ) → SameLease j e b → Stamped j (e .stamp) b
-  stamped b k = record { entry = k .entry; here = k .here; stamped = k .stamp }
-
-  stamped-along : (es : List Event) → SameLeaseAlong j e es → StampedAlong j (e .stamp) es
-  stamped-along [] all = tt
-  stamped-along (x ∷ xs) all = (stamped (tableOf x) (all .0), stamped-along xs (all .1))
+  same-along : (es : List Event) → SameLeaseAlong j e es → SameStampAlong j e es
+  same-along [] all = tt
+  same-along (x ∷ xs) all = (all .0 .kept, same-along xs (all .1))
 
 module _ (b : List ℕ) (es : List Event) (j : ℕ) (e : Entry) (s : SoundBytes b) (ranges : AllInRange es) (h : Trace model b es)
     (here : slotOf (readTable b) j ≡ held e) (all : SameLeaseAlong j e es) where
@@ -64,14 +46,14 @@ module _ (b : List ℕ) (es : List Event) (j : ℕ) (e : Entry) (s : SoundBytes 
 
   -- it has grown older by the steps
   older : ageOf finish e ≡ ageOf start e + stepsAlong b es
-  older = live-age .grows b es j (e .stamp) s ranges h (stamped j e b (at-start j e b here)) (stamped-along j e es all)
+  older = live-age .grows b es j (e .stamp) s ranges h (stamped j e b (same-self j e (readTable b) here)) (stamped-along j e es (same-along j e es all))
 
   -- and is younger than its lease still
   live-still : ageOf finish e < e .lease
   live-still =
-      let k = kept in
+      let k = kept .kept in
       let y = younger (leftBy b es) (sound-along (sizeOf (length (readTable b .slots))) b (tallyOf (readTable b)) es ranges (kept-self b s) h) j (k .entry) (k .here) in
-      let z = rw (k .stamp, k .lease) at y in
+      let z = rw (k .stamp, kept .lease) at y in
       z
 
   told-left : (seconds : ℕ) → Remains (readTable b) e seconds → (stepsAlong b es < seconds) × Remains (readTable (leftBy b es)) e (seconds - stepsAlong b es)
@@ -80,7 +62,7 @@ module _ (b : List ℕ) (es : List Event) (j : ℕ) (e : Entry) (s : SoundBytes 
   told-right : (x : Entry) → slotOf (readTable (leftBy b es)) j ≡ held x → (from : Sender) (q : Question) (o : LlqOption) → Response o → Own from q e → e .number ≡ o .number
       → Remains (readTable b) e (o .lease) → RightResponse finish from q o x
   told-right x there from q o so own n r =
-      let k = kept in
+      let k = kept .kept in
       subst (RightResponse finish from q o) (held-inj (k .entry) x (sym (k .here) ∙ there))
       (record {
         response = so;
@@ -92,8 +74,8 @@ module _ (b : List ℕ) (es : List Event) (j : ℕ) (e : Entry) (s : SoundBytes 
           qclass = k .qclass ∙ own .qclass;
         };
         number = k .number ∙ n;
-        least = rw (k .stamp, k .lease) (omega (arith, older, r));
-        most = rw (k .lease) (omega (arith, r));
+        least = rw (k .stamp, kept .lease) (omega (arith, older, r));
+        most = rw (kept .lease) (omega (arith, r));
       })
 
 pub told-leases : ToldLeases model

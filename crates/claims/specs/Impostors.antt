@@ -1,5 +1,5 @@
--- Wrong servers: document 01's impostors, the old box's five faults, six that tell or take a lease wrongly, and one that takes steps back from the
--- count; each the model with one part wrong, and the claim that each breaks. Assumes nothing.
+-- Wrong servers: document 01's impostors, the old box's five faults, six that tell or take a lease wrongly, and five that move the clock wrongly
+-- when it goes back; each the model with one part wrong, and the claim that each breaks. Assumes nothing.
 use Prim.Native.Nat.{ℕ, zero, suc, _+_, _-_, _%_, _^_}
 use mathlib.Core.Bool.{Bool, not, cond, _&&_, _||_}
 use mathlib.Core.List.{List, [], _∷_, _++_, map}
@@ -7,7 +7,7 @@ use lib.ListN.{length, drop}
 use lib.IntN.{ℤ, pos, negsuc}
 use lib.Dec.{eqb, leb, ltb}
 use Rattle.model.specs.Lists.{count, any, upTo}
-use Rattle.model.specs.Clock.{Clock, step, moved, advance, placeOf, ageAt}
+use Rattle.model.specs.Clock.{Clock, step, slack, moved, advance, placeOf, ageAt}
 use Rattle.model.specs.Query.{Question, LlqOption, question, llqOption, qdcount, matched}
 use Rattle.model.specs.Table.{Entry, Slot, free, held, Table, tableBytes, readTable}
 use Rattle.model.specs.Rules.{Holding, holdings, asks, numbered, limitOf, shareOf, reserve}
@@ -21,7 +21,10 @@ use Rattle.claims.specs.Established.{EstablishedExactly}
 use Rattle.claims.specs.Tick.{Ticking}
 use Rattle.claims.specs.Demand3.{Demand3}
 use Rattle.claims.specs.Reply.{ReplyClaim}
+use Rattle.claims.specs.LiveAge.{LiveAge}
 use Rattle.claims.specs.Repeats.{ToldLeases}
+use Rattle.claims.specs.Resumes.{Resumes}
+use Rattle.claims.specs.Samples.{ClockSamples}
 
 -- A SERVER WITH ONE CALL OF ITS OWN, the others those of the server given: a further call is one line in each
 abbrev pub withMake : Server → (MakeCall → List ℕ → Made) → Server
@@ -268,14 +271,48 @@ sentLessAge = withResponse answers onSent
 
 -- THE CLOCK
 
--- a step back is taken from the running count, and its place is kept
-abbrev pub movedBack : Clock → ℕ → ℤ → Clock
-movedBack c to (pos n) = moved c to (pos n)
-movedBack c to (negsuc n) = record { place = to; running = (c .running + 2 ^ 32 - suc n) % 2 ^ 32 }
+-- a step of 0 or more by the rule, and this of the clock, the new place and the seconds for a step back
+abbrev pub onBack : (Clock → ℕ → ℕ → Clock) → Clock → ℕ → ℤ → Clock
+onBack f c to (pos n) = moved c to (pos n)
+onBack f c to (negsuc n) = f c to (n + 1)
 
--- so a life grows again after it was told
+abbrev pub moveBack : (Clock → ℕ → ℕ → Clock) → Clock → ℕ → Clock
+moveBack f c to = onBack f c to (step (c .place) to)
+
+abbrev pub withBack : (Clock → ℕ → ℕ → Clock) → Server
+withBack f = withMove (λ t place. freeRunOut (withClock t (moveBack f (t .clock) place)))
+
+-- nothing changes, or the new place is kept
+abbrev pub stands : Clock → ℕ → ℕ → Clock
+stands c to k = c
+
+abbrev pub setTo : Clock → ℕ → ℕ → Clock
+setTo c to k = record { place = to; running = c .running }
+
+-- every step back changes nothing: document 01's rule before document 02
+abbrev pub freezes : Server
+freezes = withBack stands
+
+-- every step back keeps the place, one of 60 seconds too
+abbrev pub keepsAlways : Server
+keepsAlways = withBack setTo
+
+-- a step back of 61 seconds changes nothing
+abbrev pub waitsFor61 : Server
+waitsFor61 = withBack (λ c to k. cond (leb k 61) (stands c to k) (setTo c to k))
+
+-- a large step back is added to the running count, modulo 2^32, and its place is kept: so a life grows again after it was told
 abbrev pub countsBack : Server
-countsBack = withMove (λ t place. freeRunOut (withClock t (movedBack (t .clock) place (step (t .clock .place) place))))
+countsBack = withBack (λ c to k. cond (leb k slack) (stands c to k) (record { place = to; running = (c .running + 2 ^ 32 - k) % 2 ^ 32 }))
+
+-- a large step back frees every entry
+abbrev pub freedOnBack : Table → ℕ → ℤ → Table
+freedOnBack t place (pos n) = movedOn t place
+freedOnBack t place (negsuc n) =
+    cond (leb (n + 1) slack) (movedOn t place) (record { clock = setTo (t .clock) place (n + 1); roster = t .roster; slots = map (λ x. free) (t .slots) })
+
+abbrev pub endsOnSetBack : Server
+endsOnSetBack = withMove (λ t place. freedOnBack t place (step (t .clock .place) place))
 
 -- EACH BREAKS A CLAIM
 pub record Refuted : Type 0 where
@@ -297,4 +334,11 @@ pub record Refuted : Type 0 where
   pub anyUpToGranted : EstablishedExactly anyUpToGranted → ⊥
   pub openBelow : EstablishedExactly openBelow → ⊥
   pub sentLessAge : Demand3 sentLessAge → ⊥
-  pub countsBack : ToldLeases countsBack → ⊥
+  pub freezes : Demand3 freezes → ⊥
+  pub keepsAlways : (LiveAge keepsAlways → ⊥) × (Demand3 keepsAlways → ⊥)
+  pub waitsFor61 : Demand3 waitsFor61 → ⊥
+  pub countsBack : (Ticking countsBack → ⊥) × (ToldLeases countsBack → ⊥)
+  pub endsOnSetBack : Ticking endsOnSetBack → ⊥
+  -- the claims of the clock alone, by the clocks of `freezes` and `keepsAlways`
+  pub resumes : (Resumes (moveBack stands) → ⊥) × (Resumes (moveBack setTo) → ⊥)
+  pub clockSamples : (ClockSamples (moveBack stands) → ⊥) × (ClockSamples (moveBack setTo) → ⊥)

@@ -26,3 +26,4 @@ pub mod TableLayout
 pub mod OneSlot
 pub mod Contracts
 pub mod Step
+pub mod Resumes

@@ -1,5 +1,6 @@
--- W11, and the table's bytes after its making, its setup, its response and a refresh without RD; after its setup again and two late responses; and
--- those of a table whose numbers have no byte in common, written out from document 01's layout. Assumes nothing.
+-- W11, and the table's bytes after its making, its setup, its response and a refresh without RD; after its setup again and two late responses;
+-- what ticks free when the clock is set back by a year; and the bytes of a table whose numbers have no byte in common, written out from document
+-- 01's layout. Assumes nothing.
 use Prim.Native.Nat.{ℕ, _+_}
 use mathlib.Core.Path.{_≡_}
 use mathlib.Core.Bool.{true, false}
@@ -7,9 +8,9 @@ use mathlib.Core.List.{List, [], _∷_, _++_}
 use lib.ListN.{length, replicate}
 use Rattle.model.specs.Table.{free, held, Table, tableBytes, readTable}
 use Rattle.model.specs.Serve.{Sender}
-use Rattle.model.specs.Calls.{MakeCall, ServeCall}
+use Rattle.model.specs.Calls.{MakeCall, TickCall, ServeCall}
 use Rattle.model.specs.Meets.{Server}
-use Rattle.claims.specs.CallBuilders.{makeAt, datagramAt}
+use Rattle.claims.specs.CallBuilders.{makeAt, tickAt, datagramAt}
 
 abbrev pub zeros : ℕ → List ℕ
 zeros k = replicate k 0
@@ -234,7 +235,25 @@ distinctPin =
     ∷ 1
     ∷ 0 ∷ (zeros 254 ++ zeros 25))
 
--- a server makes, challenges, acknowledges and renews as written out, and repeats its challenge; 8 bytes past each reply keep what they held
+-- SET BACK BY A YEAR: made and asked, with a lease of 60 seconds, at week 100, second 100,000; ticks 40 seconds later, a year back from there, and
+-- 19 seconds and 1 second on
+abbrev pub shortSetup : ServeCall
+shortSetup =
+    datagramAt 100 100000 sender 7
+    (0x12 ∷ 0x34 ∷ 0x01 ∷ 0 ∷ 0 ∷ 1 ∷ 0 ∷ 0 ∷ 0 ∷ 0 ∷ 0 ∷ 1
+    ∷ 1 ∷ 0x61 ∷ 0 ∷ 0 ∷ 0x0C ∷ 0 ∷ 1
+    ∷ 0 ∷ 0 ∷ 0x29 ∷ 0x05 ∷ 0xC0 ∷ 0 ∷ 0 ∷ 0 ∷ 0 ∷ 0 ∷ 0x16
+    ∷ 0 ∷ 1 ∷ 0 ∷ 0x12 ∷ 0 ∷ 1 ∷ 0 ∷ 1 ∷ 0 ∷ 0 ∷ 0 ∷ 0 ∷ 0 ∷ 0 ∷ 0 ∷ 0 ∷ 0 ∷ 0 ∷ 0 ∷ 0 ∷ 0 ∷ 60 ∷ []) 60
+
+abbrev pub setBackTicks : List TickCall
+setBackTicks = tickAt 100 100040 ∷ tickAt 48 13640 ∷ tickAt 48 13659 ∷ tickAt 48 13660 ∷ []
+
+-- what ticks one after the other are answered: the freed counts
+abbrev pub freedAlong : Server → List ℕ → List TickCall → List ℕ
+freedAlong s b [] = []
+freedAlong s b (c ∷ cs) = s .tick c b .freed ∷ freedAlong s (s .tick c b .table) cs
+
+-- a server makes, challenges, acknowledges and renews as written out, repeats its challenge, and ends a lease; 8 bytes past each reply keep what they held
 pub record Pinned (s : Server) : Type 0 where
   pub size : length madePin ≡ 1593
   pub made : s .make makeCall (replicate 1593 0xEE) ≡ record { number = 0; table = madePin }
@@ -253,6 +272,9 @@ pub record Pinned (s : Server) : Type 0 where
   -- with 3,554, one less than what remains: error 4, and the clock alone moves
   pub tooShort : s .serve (lateCall 0x0D 0xE2) againPin (replicate 60 0xAA)
       ≡ record { number = 0; length = 52; table = latePin 5; reply = noSuchReply ++ replicate 8 0xAA }
+  -- set back by a year, the lease runs on and ends when 60 seconds have passed
+  pub setBack : freedAlong s (s .serve shortSetup (s .make (makeAt 100 100000 []) (replicate 633 0xEE) .table) (replicate 60 0xAA) .table) setBackTicks
+      ≡ 0 ∷ 0 ∷ 0 ∷ 1 ∷ []
   -- the definitions write and read the three slots so
   pub written : tableBytes distinctTable ≡ distinctPin
   pub readBack : readTable distinctPin ≡ distinctTable

@@ -10,7 +10,7 @@ use Rattle.model.specs.Serve.{Sender, Served, slotOf, serveOption}
 use Rattle.model.specs.Meets.{Server}
 use Rattle.claims.specs.Events.{Event, tableOf, Trace, AllInRange}
 use Rattle.claims.specs.Changes.{Setup, Response, Own, ageOf, RightResponse}
-use Rattle.claims.specs.LiveAge.{stepsAlong, leftBy}
+use Rattle.claims.specs.LiveAge.{stepsAlong, leftBy, SameStamp}
 
 -- what a repeated setup gives: error 0, this number and lease, and the table as it was
 pub record Repeated (t : Table) (llq seconds : ℕ) (x : Served) : Type 0 where
@@ -49,16 +49,8 @@ SetupTwice =
 
 -- slot j holds the entry with the lease and the stamp that it had, its state aside
 pub record SameLease (j : ℕ) (e : Entry) (b : List ℕ) : Type 0 where
-  pub entry : Entry
-  pub here : slotOf (readTable b) j ≡ held entry
-  pub number : entry .number ≡ e .number
-  pub address : entry .address ≡ e .address
-  pub port : entry .port ≡ e .port
-  pub name : entry .name ≡ e .name
-  pub qtype : entry .qtype ≡ e .qtype
-  pub qclass : entry .qclass ≡ e .qclass
-  pub lease : entry .lease ≡ e .lease
-  pub stamp : entry .stamp ≡ e .stamp
+  pub kept : SameStamp j e (readTable b)
+  pub lease : kept .entry .lease ≡ e .lease
 
 -- after each call of the list
 abbrev pub SameLeaseAlong : ℕ → Entry → List Event → Type 0

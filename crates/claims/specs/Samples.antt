@@ -1,17 +1,17 @@
 -- Claim 6: document 01's samples W1 to W10, and two steps beside them, one table under one statement, of the definitions that contracts and
--- claims cite; and samples of a response's span, one table under another. Assumes nothing.
+-- claims cite; and samples of the clock moved and of a response's span, one table each under one statement. Assumes nothing.
 use Prim.Native.Nat.{ℕ, _^_}
 use mathlib.Core.Path.{_≡_}
 use mathlib.Core.Bool.{Bool, true, false}
 use mathlib.Core.List.{List, [], _∷_}
 use lib.IntN.{ℤ, pos, negsuc}
 use Rattle.model.specs.Lists.{bit, count}
-use Rattle.model.specs.Clock.{step, ageAt, runOut}
+use Rattle.model.specs.Clock.{Clock, step, ageAt, runOut}
 use Rattle.model.specs.Query.{Question, LlqOption}
 use Rattle.model.specs.Table.{Entry, free, held, Table}
 use Rattle.model.specs.Rules.{Holding, entriesOf, grantedLease, freshNumber}
 use Rattle.model.specs.Serve.{Sender, Served, isFree, answers, serveOption}
-use Rattle.claims.specs.Tally.{isAnswered}
+use Rattle.claims.specs.Tally.{moveTally, isAnswered}
 
 -- an established entry with this number
 abbrev pub entryNumbered : ℕ → Entry
@@ -65,6 +65,47 @@ Agree (r ∷ rs) = (r .0 ≡ r .1) × Agree rs
 
 abbrev pub Samples : Type 0
 Samples = Agree samples
+
+-- THE CLOCK MOVED: place and count, a reading's place, and place and count after it
+pub record ClockSample : Type 0 where
+  pub before : Clock
+  pub reading : ℕ
+  pub after : Clock
+
+abbrev pub moves : ℕ → ℕ → ℕ → ℕ → ℕ → ClockSample
+moves place running reading placeAfter runningAfter =
+    record { before = record { place = place; running = running }; reading = reading; after = record { place = placeAfter; running = runningAfter } }
+
+abbrev pub clockSamples : List ClockSample
+clockSamples =
+    moves 1000 7 1000 1000 7  -- 0, −1 and −60 change nothing,
+    ∷ moves 1000 7 999 1000 7
+    ∷ moves 1000 7 940 1000 7
+    ∷ moves 1000 7 939 939 7  -- −61 keeps the place,
+    ∷ moves 1000 7 1001 1001 8  -- and 1 is counted
+    ∷ moves 30 7 619315170 30 7  -- around the end of the cycle: −60
+    ∷ moves 30 7 619315169 619315169 7  -- and −61
+    ∷ moves 0 7 309657600 309657600 7  -- half a cycle is the longest step back,
+    ∷ moves 0 7 309657599 309657599 309657606  -- one second less the longest on
+    ∷ moves 100000000 7 68464000 68464000 7  -- a year back,
+    ∷ moves 68464000 7 68464010 68464010 17  -- and on from there
+    ∷ moves 939 7 1000 1000 68  -- back by 61 and forth is 61 seconds more
+    ∷ moves 5 4294967295 6 6 0  -- the count wraps
+    ∷ []
+
+abbrev pub ClocksAgree : (Clock → ℕ → Clock) → List ClockSample → Type 0
+ClocksAgree move [] = Unit {0}
+ClocksAgree move (x ∷ xs) = (move (x .before) (x .reading) ≡ x .after) × ClocksAgree move xs
+
+-- the clock as the tally moves it
+abbrev pub byTally : Clock → ℕ → Clock
+byTally c to =
+    let y = moveTally (record { place = c .place; running = c .running; n = 0; roster = []; holdings = [] }) to in
+    record { place = y .place; running = y .running }
+
+-- of any way to move the clock; it holds of the rule that the contracts cite, and of the tally's
+abbrev pub ClockSamples : (Clock → ℕ → Clock) → Type 0
+ClockSamples move = ClocksAgree move clockSamples
 
 -- THE SPAN: granted lease, age and lease sent, and whether a response with it is right
 pub record SpanSample : Type 0 where

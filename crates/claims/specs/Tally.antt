@@ -38,7 +38,15 @@ ahead from to = (to + 619315200 - from) % 619315200
 abbrev pub forward : ℕ → ℕ → Bool
 forward from to = ltb (ahead from to) 309657600
 
--- the seconds that a reading adds to every age
+-- how many seconds back, around the cycle, the new place is
+abbrev pub behind : ℕ → ℕ → ℕ
+behind from to = (from + 619315200 - to) % 619315200
+
+-- the new place is kept where the step is 0 or more, and where it is more than 60 seconds back
+abbrev pub keepsPlace : ℕ → ℕ → Bool
+keepsPlace from to = forward from to || ltb 60 (behind from to)
+
+-- the seconds that a reading adds to every age: a step back adds none
 abbrev pub passed : ℕ → ℕ → ℕ
 passed from to = cond (forward from to) (ahead from to) 0
 
@@ -63,7 +71,7 @@ underLease h = ltb (h .age) (h .lease)
 unfoldable pub moveTally : Tally → ℕ → Tally
 moveTally y to =
     record {
-      place = cond (forward (y .place) to) to (y .place);
+      place = cond (keepsPlace (y .place) to) to (y .place);
       running = (y .running + passed (y .place) to) % 4294967296;
       n = y .n;
       roster = y .roster;

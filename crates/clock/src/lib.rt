@@ -18,6 +18,9 @@ const WEEKS: u32 = 1024;
 
 const WEEK: u32 = 604800;
 
+// A step back of so many seconds or less changes nothing.
+const SLACK: i32 = 60;
+
 // The last place and the running count.
 pub struct Clock {
     pub place: u32,
@@ -55,12 +58,19 @@ pub fn step(from: u32, to: u32) -> i32
     }
 }
 
-// "A step of 0 or more is added to the running count, modulo 4,294,967,296, and the new place is kept. A negative step changes nothing (house)."
+// "A step of 0 or more is added to the running count, modulo 4,294,967,296, and the new place is kept." "A negative step of 60 seconds or less
+// changes nothing. A larger one leaves the running count and keeps the new place."
 fn stepped(c: Clock, to: u32) -> Clock
     requires { ⌜ (c .place < cycle) × (to < cycle) ⌝ }
     ensures { λ r. ⌜ clockOf r ≡ advanceOf (clockOf c) to ⌝ }
 {
     let s = step(c.place, to);
+    if s < -SLACK {
+        return Clock {
+            place: to,
+            running: c.running,
+        };
+    }
     if s < 0 {
         return c;
     }

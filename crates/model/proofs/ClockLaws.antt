@@ -7,10 +7,10 @@ use mathlib.Core.Bool.{Bool, true, false, not, cond}
 use mathlib.Core.Logic.{_⊎_, inl, inr, ⊎-elim}
 use lib.IntN.{ℤ, pos, negsuc, _+ℤ_, _-ℤ_, _*ℤ_}
 use lib.Signed.{_≤ℤ_, _<ℤ_, ltZ, ltZ-yes, ltZ-no}
-use lib.Dec.{T, ltb}
-use borrow.Author.Tests.{ltb-true, ltb-false, lt-ltb}
-use Rattle.model.specs.Clock.{Clock, cycle, brought, step, moved, advance, ageAt, placeOf, validReading}
-use Rattle.model.proofs.ListLaws.{and-left, and-right}
+use lib.Dec.{T, ltb, leb}
+use borrow.Author.Tests.{ltb-true, ltb-false, lt-ltb, le-leb, lt-leb}
+use Rattle.model.specs.Clock.{Clock, cycle, brought, step, slack, moved, advance, ageAt, placeOf, validReading}
+use Rattle.model.proofs.ListLaws.{and-left, and-right, either}
 use Rattle.model.proofs.Integers.{Diff, diff-pos, diff-sub, diff-neg, diff-add, diff-minus, diff-mul, up, down, diff-of, diff-eq, diff-lt, diff-le, lt-diff, le-diff}
 
 -- THE STEP IN NATURALS
@@ -136,22 +136,26 @@ placed week second h =
     let b = ltb-true second 604800 (and-right (ltb week 1024) (ltb second 604800) h) in
     omega arith
 
--- a step of 0 or more is added to the count, and the place is kept; a negative one changes nothing
+-- a step of 0 or more is added to the count, and the place is kept; one back of 60 seconds or less changes nothing, a larger one keeps the place
 pub advance-on : (c : Clock) (to n : ℕ) → step (c .place) to ≡ pos n → advance c to ≡ record { place = to; running = (c .running + n) % 2 ^ 32 }
 unfolding advance
 advance-on c to n e = rw e
 
-pub advance-back : (c : Clock) (to n : ℕ) → step (c .place) to ≡ negsuc n → advance c to ≡ c
+pub advance-back : (c : Clock) (to n : ℕ) → step (c .place) to ≡ negsuc n → n + 1 ≤ slack → advance c to ≡ c
 unfolding advance
-advance-back c to n e = rw e
+advance-back c to n e h = rw (e, le-leb (n + 1) slack h)
+
+pub advance-set-back : (c : Clock) (to n : ℕ) → step (c .place) to ≡ negsuc n → slack < n + 1 → advance c to ≡ record { place = to; running = c .running }
+unfolding advance
+advance-set-back c to n e h = rw (e, lt-leb (n + 1) slack h)
 
 pub moved-place : (c : Clock) (to : ℕ) (z : ℤ) → c .place < cycle → to < cycle → moved c to z .place < cycle
 moved-place c to (pos n) hc ht = ht
-moved-place c to (negsuc n) hc ht = hc
+moved-place c to (negsuc n) hc ht = either (λ (k : Clock). k .place < cycle) (leb (n + 1) slack) hc ht
 
 pub moved-running : (c : Clock) (to : ℕ) (z : ℤ) → c .running < 2 ^ 32 → moved c to z .running < 2 ^ 32
 moved-running c to (pos n) h = omega arith
-moved-running c to (negsuc n) h = h
+moved-running c to (negsuc n) h = either (λ (k : Clock). k .running < 2 ^ 32) (leb (n + 1) slack) h h
 
 -- place and count stay in range
 pub advance-place : (c : Clock) (to : ℕ) → c .place < cycle → to < cycle → advance c to .place < cycle

@@ -30,11 +30,15 @@ brought c z = cond (ltZ z (negℤ (pos (c / 2)))) (z +ℤ pos c) (cond (ltZ z (p
 unfoldable pub step : ℕ → ℕ → ℤ
 step from to = brought cycle (pos to -ℤ pos from)
 
+-- the seconds that a clock may go back without being taken for one that was set back (document 02, Ticket 4)
+abbrev pub slack : ℕ
+slack = 60
+
 -- a step of 0 or more is added to the running count, modulo 4,294,967,296, and the new place is kept;
--- a negative step changes nothing (house)
+-- a negative step of 60 seconds or less changes nothing, a larger one leaves the running count and keeps the new place
 abbrev pub moved : Clock → ℕ → ℤ → Clock
 moved c to (pos n) = record { place = to; running = (c .running + n) % 2 ^ 32 }
-moved c to (negsuc n) = c
+moved c to (negsuc n) = cond (leb (n + 1) slack) c (record { place = to; running = c .running })
 
 -- the clock moved on to a new place
 unfoldable pub advance : Clock → ℕ → Clock

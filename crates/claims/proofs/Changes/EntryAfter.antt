@@ -13,7 +13,7 @@ use Rattle.model.specs.Sound.{Sound}
 use Rattle.model.specs.Serve.{Sender, serveOption, withSlot, slotOf, establish}
 use Rattle.model.proofs.ListLaws.{never}
 use Rattle.model.proofs.HoldingLaws.{not-held, held-inj}
-use Rattle.claims.specs.Changes.{RightResponse, RightRefresh, renewedEntry, Change, nothing, grant, confirm, renew, end, OptionDone}
+use Rattle.claims.specs.Changes.{RightResponse, RightRefresh, Granted, renewedEntry, Change, nothing, grant, confirm, renew, end, OptionDone}
 use Rattle.claims.proofs.Changes.OptionChange.{option-change, response-establishes}
 
 -- ONE SLOT of a table where slot k is written
@@ -61,30 +61,30 @@ module _ (s : Sender) (q : Question) (o : LlqOption) (t u : Table) where
   entry-after (renew k f i hk right n hu) j e h = written-after k f (held (renewedEntry t o f)) hk hu (λ w. renewed right n w) i j e h
   entry-after (end k f i hk right n hu) j e h = written-after k f free hk hu (λ w. ended right n w) i j e h
 
-  -- what a free slot gets is pending
-  pub free-after : Change s q o t u → (j : ℕ) (x : Entry) → slotOf t j ≡ free → slotOf u j ≡ held x → x .established ≡ false
+  -- what a free slot gets is granted
+  pub free-after : Change s q o t u → (j : ℕ) (x : Entry) → slotOf t j ≡ free → slotOf u j ≡ held x → Granted s q o t x
   free-after c j x h w = go c
     where
-      same-slot : u ≡ t → x .established ≡ false
+      same-slot : u ≡ t → Granted s q o t x
       same-slot hu = not-held x (sym h ∙ ap (λ (v : Table). slotOf v j) (sym hu) ∙ w)
 
-      other : (k : ℕ) (f : Entry) (z : Slot) → slotOf t k ≡ held f → u ≡ withSlot t k z → x .established ≡ false
+      other : (k : ℕ) (f : Entry) (z : Slot) → slotOf t k ≡ held f → u ≡ withSlot t k z → Granted s q o t x
       other k f z hk hu =
           not-held x
           (sym h ∙ sym (slot-other t k z j (λ p. not-held f (sym h ∙ ap (slotOf t) p ∙ hk))) ∙ ap (λ (v : Table). slotOf v j) (sym hu) ∙ w)
 
-      new : (k : ℕ) (f : Entry) → k < length (t .slots) → f .established ≡ false → u ≡ withSlot t k (held f) → (v : Bool) → eqb j k ≡ v → x .established ≡ false
-      new k f i b hu true m =
+      new : (k : ℕ) (f : Entry) → k < length (t .slots) → Granted s q o t f → u ≡ withSlot t k (held f) → (v : Bool) → eqb j k ≡ v → Granted s q o t x
+      new k f i g hu true m =
           let p : j ≡ k = eqb-true j k m in
           let p2 : f ≡ x =
           held-inj f x (sym (slot-written t k (held f) i) ∙ ap (λ (v : Table). slotOf v k) (sym hu) ∙ ap (slotOf u) (sym p) ∙ w) in
-          ap (λ (y : Entry). y .established) (sym p2) ∙ b
-      new k f i b hu false m =
+          subst (Granted s q o t) p2 g
+      new k f i g hu false m =
           not-held x (sym h ∙ sym (slot-other t k (held f) j (eqb-false j k m)) ∙ ap (λ (v : Table). slotOf v j) (sym hu) ∙ w)
 
-      go : Change s q o t u → x .established ≡ false
+      go : Change s q o t u → Granted s q o t x
       go (nothing hu) = same-slot hu
-      go (grant k f i hk low g hu) = new k f i (g .pending) hu (eqb j k) refl
+      go (grant k f i hk low g hu) = new k f i g hu (eqb j k) refl
       go (confirm k f i hk b right hu) = other k f (held (establish f)) hk hu
       go (renew k f i hk right n hu) = other k f (held (renewedEntry t o f)) hk hu
       go (end k f i hk right n hu) = other k f free hk hu
@@ -112,7 +112,7 @@ module _ (s : Sender) (q : Question) (o : LlqOption) (t u : Table) where
       on e (ended right n z) = inl (right .established)
 
       go : (z : Slot) → slotOf t j ≡ z → (e : Entry) × ((slotOf t j ≡ held e) × ((e .established ≡ true) ⊎ RightResponse (t .clock .running) s q o e))
-      go free h = never b (free-after c j x h w)
+      go free h = never b (free-after c j x h w .pending)
       go (held e) h = (e, (h, on e (entry-after c j e h)))
 
 -- ONE OPTION OF THE MODEL, in a sound table

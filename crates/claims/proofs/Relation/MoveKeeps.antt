@@ -2,9 +2,10 @@
 use Prim.Native.Nat.{ℕ, _+_, _-_, _%_, _^_, _≤_, _<_}
 use native.Mathlib.Omega.{arith}
 use mathlib.Core.Path.{_≡_, refl, sym, ap, _∙_}
-use mathlib.Core.Bool.{Bool, true, false, not, cond, _&&_, and-not-self}
+use mathlib.Core.Bool.{Bool, true, false, not, cond, _&&_, _||_, and-not-self}
 use mathlib.Core.List.{List, map}
 use lib.IntN.{pos}
+use lib.Dec.{ltb}
 use borrow.Author.Tests.{ltb-true, ltb-false}
 use Rattle.model.specs.Lists.{count, any, keep}
 use Rattle.model.specs.Clock.{Clock, cycle, advance}
@@ -14,10 +15,10 @@ use Rattle.model.specs.Sound.{validLease, live}
 use Rattle.model.specs.Serve.{movedOn}
 use Rattle.model.specs.Calls.{freedBy}
 use Rattle.model.proofs.ListLaws.{and-right, count-keep, count-map, count-mono, every-all, every-not}
-use Rattle.model.proofs.ClockLaws.{forward-step, backward-step, advance-on, advance-back, advance-place}
+use Rattle.model.proofs.ClockLaws.{forward-step, backward-step, advance-on, advance-back, advance-set-back, advance-place}
 use Rattle.model.proofs.HoldingLaws.{count-free, count-freed}
 use Rattle.model.proofs.StepLaws.{moved-clock, moved-roster, moved-length, moved-fits, moved-holdings, entries-older, young}
-use Rattle.claims.specs.Tally.{Tally, ahead, forward, passed, older, underLease, moveTally}
+use Rattle.claims.specs.Tally.{Tally, ahead, forward, behind, keepsPlace, passed, older, underLease, moveTally}
 use Rattle.claims.proofs.Relation.{Related}
 use Rattle.claims.proofs.Relation.HoldingFacts.{HoldingFacts, tally-facts, listed-once, related-next, strike-facts}
 
@@ -26,22 +27,32 @@ use Rattle.claims.proofs.Relation.HoldingFacts.{HoldingFacts, tally-fac
 -- the model's clock moved, by the tally's rule
 abbrev movedClock : Clock → ℕ → Clock
 movedClock c to =
-    record { place = cond (forward (c .place) to) to (c .place); running = (c .running + passed (c .place) to) % 4294967296 }
+    record { place = cond (keepsPlace (c .place) to) to (c .place); running = (c .running + passed (c .place) to) % 4294967296 }
 
 pub advance-is : (c : Clock) (to : ℕ) → c .place < cycle → c .running < 2 ^ 32 → to < cycle → advance c to ≡ movedClock c to
 advance-is c to hp hr ht = go (forward (c .place) to) refl
   where
+    -- a step back: more than 60 seconds, or not
+    back : 309657600 ≤ ahead (c .place) to → (v : Bool) → ltb 60 (behind (c .place) to) ≡ v
+        → advance c to ≡ record { place = cond v to (c .place); running = (c .running + 0) % 4294967296 }
+    back l true e =
+        let k : c .running ≡ (c .running + 0) % 4294967296 = omega arith in
+        advance-set-back c to _ (backward-step (c .place) to hp ht (omega arith)) (omega (arith, ltb-true 60 (behind (c .place) to) e))
+        ∙ ap (λ (x : ℕ). record { place = to; running = x }) k
+    back l false e =
+        let k : c .running ≡ (c .running + 0) % 4294967296 = omega arith in
+        advance-back c to _ (backward-step (c .place) to hp ht (omega arith)) (omega (arith, ltb-false 60 (behind (c .place) to) e))
+        ∙ ap (λ (x : ℕ). record { place = c .place; running = x }) k
+
     go : (b : Bool) → forward (c .place) to ≡ b
-        → advance c to ≡ record { place = cond b to (c .place); running = (c .running + cond b (ahead (c .place) to) 0) % 4294967296 }
+        → advance c to
+        ≡ record { place = cond (b || ltb 60 (behind (c .place) to)) to (c .place); running = (c .running + cond b (ahead (c .place) to) 0) % 4294967296 }
     go true e =
         let l : ahead (c .place) to < 309657600 = ltb-true (ahead (c .place) to) 309657600 e in
         let z : (to + (619315200 - c .place)) % 619315200 ≡ ahead (c .place) to = omega arith in
         advance-on c to (ahead (c .place) to) (forward-step (c .place) to hp ht (omega arith) ∙ ap pos z)
     go false e =
-        let l : 309657600 ≤ ahead (c .place) to = ltb-false (ahead (c .place) to) 309657600 e in
-        let k : c .running ≡ (c .running + 0) % 4294967296 = omega arith in
-        advance-back c to _ (backward-step (c .place) to hp ht (omega arith))
-        ∙ ap (λ (x : ℕ). record { place = c .place; running = x }) k
+        back (ltb-false (ahead (c .place) to) 309657600 e) (ltb 60 (behind (c .place) to)) refl
 
 pub passed-less : (from to : ℕ) → passed from to < 309657600
 passed-less from to = go (forward from to) refl
@@ -56,7 +67,7 @@ module _ (t : Table) (y : Tally) (to : ℕ) (ht : to < 619315200) (r : Related t
   abbrev d : ℕ
   d = passed (y .place) to
 
-  clock-is : advance (t .clock) to ≡ record { place = cond (forward (y .place) to) to (y .place); running = (y .running + d) % 4294967296 }
+  clock-is : advance (t .clock) to ≡ record { place = cond (keepsPlace (y .place) to) to (y .place); running = (y .running + d) % 4294967296 }
   clock-is = advance-is (t .clock) to (r .sound .place) (r .fits .running) ht ∙ (rw (r .place, r .running))
 
   -- the table's entries are d seconds older, and those that have run out are gone

@@ -1,18 +1,18 @@
--- `clock::stepped` meets its contract: the sign of the step picks the arm, and a step that is not negative is its natural number.
+-- `clock::stepped` meets its contract: the step picks the arm, back past 60 seconds, back, or a natural number.
 -- Assumes nothing.
 use borrow.Author.Needs.{needs}
-use mathlib.Core.Path.{_≡_, refl, sym, _∙_, ap}
-use mathlib.Core.Bool.{Bool, true, false, true≢false}
-use Prim.Native.Nat.{ℕ, _+_, _%_, _^_, _<_}
+use mathlib.Core.Path.{_≡_, sym, ap}
+use mathlib.Core.Bool.{true, false, true≢false}
+use Prim.Native.Nat.{ℕ, _+_, _%_, _^_}
 use native.Mathlib.Omega.{arith}
 use lib.IntN.{ℤ, pos, negsuc, natAbs}
 use lib.Signed.{ltZ, nonNeg}
 use lib.Dec.{T}
 use mir.Syntax.{w32}
-use mir.Val.{toZ, ofZ, SFits, Fits}
+use mir.Val.{SFits, Fits}
 use mir.ValLaws.{toZ-ofZ}
-use borrow.Author.Tests.{ltb-true}
-use Rattle.model.specs.Clock.{Clock, moved, advance}
+use borrow.Author.Tests.{ltb-true, ltb-false, le-leb, lt-leb}
+use Rattle.model.specs.Clock.{Clock, slack, moved, advance}
 use Rattle.clock.proofs.stepped.Statement.{statement}
 use Rattle.clock.proofs.stepped.Tie as tie
 use Rattle.clock.proofs.stepped.Reads as reads
@@ -20,12 +20,17 @@ use Rattle.clock.proofs.stepped.Lts as lts
 use Rattle.clock.proofs.step.Reads as step-reads
 use Rattle.std.proofs.num.wrapping_add_u32.Reads as wrapping-add-u32-reads
 
--- a step back, as the machine's test tells it, leaves the clock
-kept : (z : ℤ) → ltZ z (pos 0) ≡ true → (k : Clock) (p : ℕ) → k ≡ moved k p z
-kept (pos n) e k p = absurd (omega (arith, ltb-true n 0 e))
-kept (negsuc n) e k p = refl
+-- a step back of more than 60 seconds, as the machine's test tells it, keeps the new place
+set-back : (z : ℤ) → ltZ z (negsuc 59) ≡ true → (k : Clock) (p : ℕ) → record { place = p; running = k .running } ≡ moved k p z
+set-back (pos n) e k p = absurd (true≢false (sym e))
+set-back (negsuc n) e k p = rw (lt-leb (n + 1) slack (omega (arith, ltb-true 59 n e)))
 
--- and any other is a natural number
+-- any other step back leaves the clock
+kept : (z : ℤ) → ltZ z (negsuc 59) ≡ false → ltZ z (pos 0) ≡ true → (k : Clock) (p : ℕ) → k ≡ moved k p z
+kept (pos n) h e k p = absurd (omega (arith, ltb-true n 0 e))
+kept (negsuc n) h e k p = rw (le-leb (n + 1) slack (omega (arith, ltb-false 59 n h)))
+
+-- and a step that is not back is a natural number
 ahead : (z : ℤ) → ltZ z (pos 0) ≡ false → SFits w32 z → T (nonNeg z) × Fits w32 (natAbs z)
 ahead (pos n) e f = (tt, omega arith)
 ahead (negsuc n) e f = absurd (true≢false e)
@@ -37,21 +42,15 @@ added (negsuc n) e k p x h = absurd (true≢false e)
 step-requires : tie.Need-step-requires
 step-requires c κs = search needs
 
-cast-wrapping-add-u32 : tie.Need-cast-wrapping-add-u32
-cast-wrapping-add-u32 c =
-    let z = c .before .step .result in
-    let fit : SFits w32 z = record { sfits = c .before .step .ok } in
-    rw (toZ-ofZ w32 z fit) (ahead z (rw (toZ-ofZ w32 z fit) at (c .if1 .left)) fit)
-
-wrapping-add-u32-requires : tie.Need-wrapping-add-u32-requires
-wrapping-add-u32-requires c κs = search needs
+sub-if1 : tie.Need-sub-if1
+sub-if1 c = search needs
 
 returns : tie.Need-returns
 unfolding advance
 returns c =
     let z = c .before .step .result in
     let fit : SFits w32 z = record { sfits = c .before .step .ok } in
-    rw (← c .before .step .ensures) (kept z (rw (toZ-ofZ w32 z fit) at (c .if1 .taken)) _ _)
+    rw (← c .before .step .ensures) (set-back z (rw (toZ-ofZ w32 z fit) at (c .if1 .taken)) _ _)
 
 returns-2 : tie.Need-returns-2
 unfolding advance
@@ -60,7 +59,26 @@ returns-2 c =
     let z = at .step .result in
     let fit : SFits w32 z = record { sfits = at .step .ok } in
     rw (← at .step .ensures)
-    (added z (rw (toZ-ofZ w32 z fit) at (c .before .if1 .left)) _ _ _ (rw (toZ-ofZ w32 z fit) at (c .wrapping-add-u32 .ensures)))
+    (kept z (rw (toZ-ofZ w32 z fit) at (c .before .if1 .left)) (rw (toZ-ofZ w32 z fit) at (c .if2 .taken)) _ _)
+
+cast-wrapping-add-u32 : tie.Need-cast-wrapping-add-u32
+cast-wrapping-add-u32 c =
+    let at = c .before .before in
+    let z = at .step .result in
+    let fit : SFits w32 z = record { sfits = at .step .ok } in
+    rw (toZ-ofZ w32 z fit) (ahead z (rw (toZ-ofZ w32 z fit) at (c .if2 .left)) fit)
+
+wrapping-add-u32-requires : tie.Need-wrapping-add-u32-requires
+wrapping-add-u32-requires c κs = search needs
+
+returns-3 : tie.Need-returns-3
+unfolding advance
+returns-3 c =
+    let at = c .before .before .before in
+    let z = at .step .result in
+    let fit : SFits w32 z = record { sfits = at .step .ok } in
+    rw (← at .step .ensures)
+    (added z (rw (toZ-ofZ w32 z fit) at (c .before .if2 .left)) _ _ _ (rw (toZ-ofZ w32 z fit) at (c .wrapping-add-u32 .ensures)))
 
 pub stepped-spec : {M : Type 1} → statement M
-stepped-spec = tie.close (tie.spec step-requires returns cast-wrapping-add-u32 wrapping-add-u32-requires returns-2)
+stepped-spec = tie.close (tie.spec step-requires sub-if1 returns returns-2 cast-wrapping-add-u32 wrapping-add-u32-requires returns-3)
