@@ -12,7 +12,7 @@
 /* ---- sizes and places */
 
 enum {
-    WEEKS = 1024, WEEK = 604800, CYCLE = WEEKS * WEEK, HALF_CYCLE = CYCLE / 2,
+    WEEKS = 1024, WEEK = 604800, CYCLE = WEEKS * WEEK, HALF_CYCLE = CYCLE / 2, STEP_BACK_IGNORED = 60,
     LINES = 16, SLOTS_MOST = 64, LINES_AT = 9, LINE_SIZE = 19, SLOTS_AT = 313, SLOT_SIZE = 320,
     LIMIT_MOST = 64, UNLISTED_LIMIT = 4, LEASE_LEAST = 60, LEASE_MOST = 7200, RETRY_AFTER = 60
 };
@@ -246,7 +246,10 @@ static inline bool reading_good(uint32_t week, uint32_t second)
     return week < WEEKS && second < WEEK;
 }
 
-/* Move the clock by a good reading; returns the running count. */
+/*
+ * Move the clock by a good reading; returns the running count. "a negative step of 60 seconds or less still changes nothing; a
+ * larger one leaves the running count and keeps the new place"
+ */
 static uint32_t move_clock(struct table *t, uint32_t week, uint32_t second)
 {
     uint32_t place = week * WEEK + second, running = get32(t->bytes + RUNNING_AT);
@@ -255,8 +258,11 @@ static uint32_t move_clock(struct table *t, uint32_t week, uint32_t second)
         step -= CYCLE;
     else if (step < -HALF_CYCLE)
         step += CYCLE;
-    if (step < 0)
+    if (step < 0) {
+        if (step < -STEP_BACK_IGNORED)
+            put32(t->bytes + PLACE_AT, place);
         return running;
+    }
     running += (uint32_t)step;
     put32(t->bytes + PLACE_AT, place);
     put32(t->bytes + RUNNING_AT, running);

@@ -249,6 +249,30 @@ mod tests {
         assert_eq!(tick(1_024, 0, &mut table), Ticked { number: 1, freed: 0 });
     }
 
+    /// With one second left: of all bytes only the place may change, and then the second runs on.
+    #[test]
+    fn ticks_that_step_back_free_nothing() {
+        let mut table = vec![0; SLOTS_4];
+        make(600, 100, &mut table, &[]);
+        serve(600, 110, 0, 1, 9, 7, &setups(&[b"\x01a\x00"], 60), &mut table, &mut [0; 200]);
+        assert_eq!(tick(600, 169, &mut table), Ticked { number: 0, freed: 0 });
+        for (week, second, next) in [
+            (600, 168, (600, 170)),
+            (600, 109, (600, 170)),
+            (600, 108, (600, 109)),
+            (547, 518_569, (547, 518_570)),
+            (88, 169, (88, 170)),
+        ] {
+            let mut lent = table.clone();
+            assert_eq!(tick(week, second, &mut lent), Ticked { number: 0, freed: 0 });
+            let mut expected = table.clone();
+            let kept = next.0 * clock::WEEK + next.1 - 1;
+            expected[1..5].copy_from_slice(&kept.to_be_bytes());
+            assert_eq!(lent, expected, "{week} {second}");
+            assert_eq!(tick(next.0, next.1, &mut lent), Ticked { number: 0, freed: 1 });
+        }
+    }
+
     #[test]
     fn holdings_count_over_ports_and_earlier_questions() {
         let mut table = vec![0; 313 + 8 * 320];

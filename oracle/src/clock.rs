@@ -4,6 +4,8 @@ pub const WEEKS: u32 = 1_024;
 pub const WEEK: u32 = 604_800;
 pub const CYCLE: u32 = WEEKS * WEEK;
 const HALF: i32 = (CYCLE / 2) as i32;
+/// A step back of this many seconds or less changes nothing.
+pub const SMALL_STEP_BACK: i32 = 60;
 
 /// The place of a reading, or nothing if its week or second is too large.
 pub fn place(week: u32, second: u32) -> Option<u32> {
@@ -35,20 +37,24 @@ pub struct Clock {
 }
 
 impl Clock {
-    /// A step of 0 or more is added to the count and the new place kept;
-    /// a negative step changes nothing.
+    /// A step of 0 or more is added to the count and the new place kept. A negative step of 60
+    /// seconds or less changes nothing; a larger one leaves the count and keeps the new place.
     pub fn moved(self, place: u32) -> Clock {
         let step = step(self.place, place);
-        if step < 0 {
-            return self;
+        if step >= 0 {
+            Clock { place, count: self.count.wrapping_add(step as u32) }
+        } else if step >= -SMALL_STEP_BACK {
+            self
+        } else {
+            Clock { place, ..self }
         }
-        Clock { place, count: self.count.wrapping_add(step as u32) }
     }
 }
 
 #[cfg(test)]
 mod tests {
     use super::*;
+    use crate::moves::MOVES;
 
     #[test]
     fn readings_have_places() {
@@ -73,12 +79,10 @@ mod tests {
     }
 
     #[test]
-    fn clock_moves_forward_only() {
-        let clock = Clock { place: 619_315_199, count: u32::MAX };
-        assert_eq!(clock.moved(4), Clock { place: 4, count: 4 });
-        assert_eq!(clock.moved(619_315_199), clock);
-        assert_eq!(clock.moved(619_315_198), clock);
-        assert_eq!(clock.moved(309_657_599), clock);
-        assert_eq!(clock.moved(309_657_598), Clock { place: 309_657_598, count: 309_657_598 });
+    fn clocks_move() {
+        for ((from, before), to, (place, count)) in MOVES {
+            let moved = Clock { place: from, count: before }.moved(to);
+            assert_eq!(moved, Clock { place, count }, "{from} to {to}");
+        }
     }
 }

@@ -3,10 +3,12 @@
 //! three are compared: numbers, lengths, freed counts, every byte of tables and
 //! replies, the bytes around the buffers, and the table's content with the tally.
 
+use crate::clock;
 use crate::coverage::{Coverage, Mark};
 use crate::random::Random;
 use crate::script::{self, Datagram, Step};
 use crate::server::Server;
+use crate::set_back::SetBack;
 use crate::tally::{self, Answer, Case, Tally};
 use crate::told::ToldLeases;
 
@@ -51,6 +53,7 @@ pub struct Run<'a> {
     /// The tally goes by the calls since an answered making.
     by_calls: bool,
     told: ToldLeases,
+    set_back: SetBack,
     pub coverage: Coverage,
 }
 
@@ -86,6 +89,7 @@ impl<'a> Run<'a> {
             tally: None,
             by_calls: false,
             told: ToldLeases::default(),
+            set_back: SetBack::default(),
             coverage: Coverage::default(),
         }
     }
@@ -141,6 +145,7 @@ impl<'a> Run<'a> {
         self.tally = tally::table::read(bytes);
         self.by_calls = false;
         self.told = ToldLeases::default();
+        self.set_back = SetBack::default();
     }
 
     fn make(&mut self, week: u32, second: u32, roster: &[u8]) -> Outcome {
@@ -159,6 +164,7 @@ impl<'a> Run<'a> {
         self.coverage.makings[number as usize] += 1;
         if let (0, Some(tally)) = (number, &self.tally) {
             self.by_calls = true;
+            self.set_back = SetBack::default();
             self.coverage.mark(Mark::MadeOverEntries, entries > 0);
             self.coverage.mark(Mark::OneSlot, tally.slots == 1);
             self.coverage.mark(Mark::SixtyFourSlots, tally.slots == 64);
@@ -271,27 +277,35 @@ impl<'a> Run<'a> {
         let (Some(before), Some(after), 0) = (known, &self.tally, number) else {
             return;
         };
-        let place = i64::from(week) * 604_800 + i64::from(second);
-        let ahead = (place - before.place).rem_euclid(619_315_200);
-        let forward = ahead < 309_657_600;
-        let wrapped = forward && before.count + ahead as u64 > 4_294_967_295;
+        let place = clock::place(week, second).expect("answered, so a reading");
+        let last = before.place as u32;
+        let step = clock::step(last, place);
+        let on = step.max(0) as u64;
+        let held = !before.holdings.is_empty();
+        let back_over_end = held && step < 0 && place > last;
+        let wrapped = before.count + on > 4_294_967_295;
         let live = |tally: &Tally, number| tally.holdings.iter().any(|h| h.number == number);
-        let freed: Vec<_> =
-            before.holdings.iter().filter(|h| h.age + ahead as u64 >= h.lease && forward).collect();
+        let freed: Vec<_> = before.holdings.iter().filter(|h| h.age + on >= h.lease).collect();
         let across = before.holdings.iter().any(|h| live(after, h.number));
         let one_left = after.holdings.iter().any(|h| h.age + 1 == h.lease);
         let coverage = &mut self.coverage;
-        coverage.mark(Mark::StepZero, ahead == 0);
-        coverage.mark(Mark::StepLongest, ahead == 309_657_599);
-        coverage.mark(Mark::StepMostNegative, ahead == 309_657_600);
-        coverage.mark(Mark::StepNegative, ahead > 309_657_600);
-        coverage.mark(Mark::CycleRolledOver, forward && place < before.place);
+        coverage.mark(Mark::StepZero, step == 0);
+        coverage.mark(Mark::StepLongest, step == 309_657_599);
+        coverage.mark(Mark::StepBackUnder60, held && (-59..0).contains(&step));
+        coverage.mark(Mark::StepBack60, held && step == -60);
+        coverage.mark(Mark::StepBack61, held && step == -61);
+        coverage.mark(Mark::StepBackOver61, held && (-309_657_599..-61).contains(&step));
+        coverage.mark(Mark::StepBackHalfCycle, held && step == -309_657_600);
+        coverage.mark(Mark::StepBack60OverCycleEnd, back_over_end && step == -60);
+        coverage.mark(Mark::StepBack61OverCycleEnd, back_over_end && step == -61);
+        coverage.mark(Mark::CycleRolledOver, step >= 0 && place < last);
         coverage.mark(Mark::CountWrapped, wrapped);
         coverage.mark(Mark::CountWrappedByCalls, wrapped && across && self.by_calls);
         coverage.mark(Mark::LiveAcrossWrap, wrapped && across);
         coverage.mark(Mark::OneSecondLeft, one_left);
         coverage.mark(Mark::SeveralFreed, freed.len() > 1);
         coverage.mark(Mark::PendingFreed, freed.iter().any(|h| !h.established));
+        self.set_back.call(coverage, step, before, after);
     }
 
     fn mark_datagram(&mut self, known: Option<Tally>, sent: &Datagram, answer: &Answer) {

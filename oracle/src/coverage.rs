@@ -9,8 +9,16 @@ use std::fmt;
 pub enum Mark {
     StepZero,
     StepLongest,
-    StepMostNegative,
-    StepNegative,
+    StepBackUnder60,
+    StepBack60,
+    StepBack61,
+    StepBackOver61,
+    StepBackHalfCycle,
+    StepBack60OverCycleEnd,
+    StepBack61OverCycleEnd,
+    CreptBack,
+    RanOutAfterSetBack,
+    AgedBackAndForth,
     CycleRolledOver,
     CountWrapped,
     LiveAcrossWrap,
@@ -56,11 +64,23 @@ pub enum Mark {
 }
 
 impl Mark {
-    pub const ALL: [(Mark, &'static str); 46] = [
+    pub const ALL: [(Mark, &'static str); 54] = [
         (Mark::StepZero, "step of 0"),
         (Mark::StepLongest, "step of +309,657,599"),
-        (Mark::StepMostNegative, "step of -309,657,600"),
-        (Mark::StepNegative, "other negative step"),
+        // Steps back with entries held.
+        (Mark::StepBackUnder60, "step of -59 to -1"),
+        (Mark::StepBack60, "step of -60"),
+        (Mark::StepBack61, "step of -61"),
+        (Mark::StepBackOver61, "step of -309,657,599 to -62"),
+        (Mark::StepBackHalfCycle, "step of -309,657,600"),
+        (Mark::StepBack60OverCycleEnd, "step of -60 over the cycle's end"),
+        (Mark::StepBack61OverCycleEnd, "step of -61 over the cycle's end"),
+        // One of over 60 seconds that came by several readings, each a little further back.
+        (Mark::CreptBack, "clock that crept back"),
+        // Entries held while the clock was set back, and with no new stamp since: run out, or held
+        // still when steps forward have made up for the step back.
+        (Mark::RanOutAfterSetBack, "entry run out after a step back"),
+        (Mark::AgedBackAndForth, "entry aged by back and forth"),
         (Mark::CycleRolledOver, "week counter rolled over"),
         (Mark::CountWrapped, "running count wrapped"),
         (Mark::LiveAcrossWrap, "entry live across the wrap"),

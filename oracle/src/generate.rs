@@ -6,11 +6,12 @@ mod world;
 
 use crate::random::Random;
 use crate::script::{Datagram, Step};
-use crate::tally::Tally;
+use crate::tally::{Holding, Tally};
 use crate::told::ToldLeases;
 use world::World;
 
 const CYCLE: i64 = 619_315_200;
+const YEAR: i64 = 31_536_000;
 
 /// What a list does to its table besides calling.
 #[derive(Clone, Copy, PartialEq, Eq)]
@@ -33,6 +34,8 @@ pub struct List {
     steps_left: usize,
     /// Steps already decided on.
     ahead: Vec<Step>,
+    /// Places of readings already decided on, the next one last.
+    places: Vec<i64>,
 }
 
 impl List {
@@ -49,7 +52,8 @@ impl List {
             Kind::Unmade => 6,
             _ => 10 + random.below(40) + 2 * world.slots,
         };
-        let mut list = List { random, world, kind, steps_left, ahead: Vec::new() };
+        let (ahead, places) = (Vec::new(), Vec::new());
+        let mut list = List { random, world, kind, steps_left, ahead, places };
         list.begin();
         list
     }
@@ -184,6 +188,9 @@ impl List {
 
     /// A reading at some step from the last place.
     fn reading(&mut self, tally: Option<&Tally>) -> (u32, u32) {
+        if let Some(place) = self.places.pop() {
+            return reading_of(place);
+        }
         let random = &mut self.random;
         let place = tally.map_or(0, |tally| tally.place);
         let holdings = tally.map_or(&[][..], |tally| &tally.holdings);
@@ -197,7 +204,13 @@ impl List {
                 let holding = random.pick(holdings);
                 (holding.lease - holding.age) as i64 + random.between(-1, 1)
             }
-            86..90 => -random.between(1, 100),
+            86 => -random.between(1, 100),
+            87..89 => *random.pick(&[-59, -60, -61, -62, -YEAR, -CYCLE / 2, 1 - CYCLE / 2]),
+            89 if !holdings.is_empty() => {
+                let steps = steps_back(random, holdings).into_iter().rev();
+                self.places = steps.map(|step| (place + step).rem_euclid(CYCLE)).collect();
+                return self.reading(tally);
+            }
             90 => *random.pick(&[59, 60, 61, 7_199, 7_200, 7_201, 604_800, -604_800]),
             91 => *random.pick(&[309_657_598, 309_657_599, 309_657_600, 309_657_601]),
             92 => random.between(0, CYCLE - 1),
@@ -207,6 +220,26 @@ impl List {
             _ => 0,
         };
         reading_of((place + step).rem_euclid(CYCLE))
+    }
+}
+
+/// Readings one after the other that go back while entries are held, each by its distance from the
+/// place before the first.
+fn steps_back(random: &mut Random, holdings: &[Holding]) -> Vec<i64> {
+    match random.below(8) {
+        // By 10 seconds a call, until it is more than 60.
+        0..2 => (1..=8).map(|calls| -10 * calls).collect(),
+        2 => vec![-60, 0, -60, 0],
+        3..5 => vec![-61, 0, -61, 0],
+        5..7 => {
+            // Far back, and on to the end of a lease.
+            let holding = random.pick(holdings);
+            let left = (holding.lease - holding.age) as i64 + random.between(-1, 1);
+            let back = *random.pick(&[-61, -YEAR, -YEAR, -CYCLE / 2]);
+            vec![back, back + left]
+        }
+        // A wild reading and the right one again.
+        _ => vec![*random.pick(&[-YEAR, YEAR]), 1],
     }
 }
 

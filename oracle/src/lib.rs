@@ -22,9 +22,12 @@ pub mod random;
 pub mod runs;
 pub mod script;
 pub mod server;
+pub mod set_back;
 pub mod told;
 pub mod variants;
 
+#[cfg(test)]
+mod moves;
 #[cfg(test)]
 mod spans;
 

@@ -128,6 +128,12 @@ impl Answer {
     }
 }
 
+/// Places come around after this many seconds.
+const CYCLE: i64 = 619_315_200;
+
+/// A place this many seconds behind the last one, or fewer, is ignored.
+const BEHIND_IGNORED: i64 = 60;
+
 /// The sender of a datagram: address and port.
 pub type From = ([u8; 16], u16);
 
@@ -271,20 +277,20 @@ fn told(case: Case, number: u64, lease: u64) -> Told {
 }
 
 impl Tally {
+    /// The new place lies ahead of the last one and, the other way around the cycle, behind it: the
+    /// shorter way counts, and the way back if they are equal. The way on is added to the count and
+    /// to every age. The way back is added to nothing; one of over 60 seconds keeps the new place.
     fn move_clock(&mut self, place: i64) -> usize {
-        let mut step = place - self.place;
-        while step < -309_657_600 {
-            step += 619_315_200;
-        }
-        while step > 309_657_599 {
-            step -= 619_315_200;
-        }
-        if step >= 0 {
+        let ahead = (place - self.place).rem_euclid(CYCLE);
+        let behind = CYCLE - ahead;
+        if ahead < behind {
             self.place = place;
-            self.count = (self.count + step as u64) % 4_294_967_296;
+            self.count = (self.count + ahead as u64) % 4_294_967_296;
             for holding in &mut self.holdings {
-                holding.age += step as u64;
+                holding.age += ahead as u64;
             }
+        } else if behind > BEHIND_IGNORED {
+            self.place = place;
         }
         let before = self.holdings.len();
         self.holdings.retain(|holding| holding.age < holding.lease);
@@ -434,6 +440,7 @@ fn reply(datagram: &Datagram, options: &[(u16, Told)]) -> Vec<u8> {
 #[cfg(test)]
 mod tests {
     use super::*;
+    use crate::moves::MOVES;
     use crate::spans::SPANS;
 
     fn holding(lease: u64, age: u64) -> Holding {
@@ -452,11 +459,50 @@ mod tests {
         };
         assert_eq!(tally.move_clock(0), 0);
         assert_eq!((tally.place, tally.count, tally.holdings[0].age), (0, 0, 1));
-        assert_eq!(tally.move_clock(309_657_600), 0);
-        assert_eq!((tally.place, tally.count), (0, 0));
         assert_eq!(tally.move_clock(59), 1);
         assert_eq!(tally.holdings, [holding(61, 60)]);
-        assert_eq!(tally.move_clock(309_657_599), 1);
+        assert_eq!(tally.move_clock(309_657_658), 1);
+    }
+
+    /// What is added to the count is added to every age, and nothing else is.
+    #[test]
+    fn the_clock_moves_and_ages_with_it() {
+        for ((from, before), to, (place, count)) in MOVES {
+            let mut tally = Tally {
+                place: from.into(),
+                count: before.into(),
+                slots: 2,
+                roster: vec![],
+                holdings: vec![holding(1 << 40, 0), holding(1 << 40, 50)],
+            };
+            let added = u64::from(count.wrapping_sub(before));
+            assert_eq!(tally.move_clock(to.into()), 0);
+            assert_eq!((tally.place, tally.count), (place.into(), count.into()), "{from} to {to}");
+            assert_eq!(tally.holdings, [holding(1 << 40, added), holding(1 << 40, 50 + added)]);
+        }
+    }
+
+    /// A step back strikes nothing, however little is left; what is left runs on from the new place.
+    #[test]
+    fn leases_run_on_from_a_place_set_back() {
+        for back in [1, 60, 61, 31_536_000, 309_657_600] {
+            let place = 400_000_000;
+            let mut tally = Tally {
+                place,
+                count: 9,
+                slots: 2,
+                roster: vec![],
+                holdings: vec![holding(60, 59), holding(3_600, 100)],
+            };
+            let before = tally.clone();
+            assert_eq!(tally.move_clock(place - back), 0);
+            let kept = if back > 60 { place - back } else { place };
+            assert_eq!(tally, Tally { place: kept, ..before });
+            assert_eq!(tally.move_clock(kept + 1), 1);
+            assert_eq!(tally.move_clock(kept + 3_499), 0);
+            assert_eq!(tally.holdings, [holding(3_600, 3_599)]);
+            assert_eq!(tally.move_clock(kept + 3_500), 1);
+        }
     }
 
     /// What the response is told, pending or established.

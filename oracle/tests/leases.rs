@@ -81,6 +81,42 @@ fn a_repeated_setup_is_told_what_remains() {
     assert_eq!(panel.setup(3_607, 100), (0, 7, 100));
 }
 
+/// In a step back what remains does not move, and a step forward is one like any other.
+#[test]
+fn what_remains_over_steps_back() {
+    let mut panel = Panel::new(3_600);
+    let pending = panel.slots();
+    for (second, left) in [
+        (1_007, 2_600),
+        // Back and forth by 60, by 61, and by 61 again.
+        (947, 2_600),
+        (1_007, 2_600),
+        (946, 2_600),
+        (1_007, 2_539),
+        (946, 2_539),
+        (1_007, 2_478),
+        // Back by 10 a call: the step is from the last place, and at 70 it is taken whole.
+        (997, 2_478),
+        (987, 2_478),
+        (977, 2_478),
+        (967, 2_478),
+        (957, 2_478),
+        (947, 2_478),
+        (937, 2_478),
+        (938, 2_477),
+    ] {
+        assert_eq!(panel.setup(second, 60), (0, 7, left), "{second}");
+        assert_eq!(panel.slots(), pending);
+    }
+    // Every lease told is right still, but none under what remains.
+    assert_eq!(panel.response(938, 2_476), NO_SUCH);
+    for told in [3_600, 2_600, 2_539, 2_478, 2_477] {
+        assert_eq!(panel.response(938, told), (0, 7, 2_477), "{told}");
+    }
+    assert_eq!(tick(WEEK, 3_414, &mut panel.table), Ticked { number: 0, freed: 0 });
+    assert_eq!(tick(WEEK, 3_415, &mut panel.table), Ticked { number: 0, freed: 1 });
+}
+
 #[test]
 fn an_established_entry_too() {
     let mut panel = Panel::new(3_600);

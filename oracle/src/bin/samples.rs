@@ -212,6 +212,14 @@ impl Script {
         &mut self.buffer[..self.length]
     }
 
+    /// The reading of the table's last place, and its running count.
+    fn clock(&self) -> (Reading, u32) {
+        let bytes = |at: usize| self.buffer[at..at + 4].iter();
+        let [place, count] =
+            [1, 5].map(|at| bytes(at).fold(0, |number, &byte| number << 8 | u32::from(byte)));
+        ((place / 604_800, place % 604_800), count)
+    }
+
     fn record(
         &mut self,
         kind: u8,
@@ -504,22 +512,92 @@ fn week_roll_over(s: &mut Script) {
     s.dump();
 }
 
-/// Steps back, which change nothing, and the longest steps both ways.
+/// Steps back: of 60 seconds or less nothing changes, of more the count stays and the place is kept.
 fn step_back(s: &mut Script) {
     s.make((40, 100), 4, &[]);
-    assert_eq!(s.ask((40, 110), PANEL, 1, &[setup("a", 60)]), [granted(1, 60)]);
-    assert_eq!(s.tick((40, 109)), (0, 0));
-    assert_eq!(s.tick((39, 604_799)), (0, 0));
+    assert_eq!(s.ask((40, 110), PANEL, 1, &[setup("a", 200)]), [granted(1, 200)]);
+    for second in [109, 51, 50] {
+        assert_eq!(s.tick((40, second)), (0, 0));
+        assert_eq!(s.clock(), ((40, 110), 10));
+    }
     // Served at an older reading: the stamp is the count that stood.
     assert_eq!(s.ask((40, 50), PANEL, 2, &[setup("b", 60)]), [granted(2, 60)]);
+    // Back by 60 and forward by 60 ages nothing.
+    assert_eq!(s.ask((40, 110), PANEL, 1, &[setup("a", 200)]), [granted(1, 200)]);
+    assert_eq!(s.clock(), ((40, 110), 10));
     s.dump();
-    assert_eq!(s.tick((40, 169)), (0, 0));
-    assert_eq!(s.tick((40, 170)), (0, 2));
-    // Half a cycle on counts as half a cycle back; one second less is the longest step.
-    s.make((0, 0), 1, &[]);
-    assert_eq!(s.ask((0, 0), PANEL, 1, &[setup("a", 7_200)]), [granted(1, 7_200)]);
-    assert_eq!(s.tick((512, 0)), (0, 0));
-    assert_eq!(s.tick((511, 604_799)), (0, 1));
+    // Back by 61: the place alone is new; what is left stays, and the stamp is that count again.
+    let told = s.ask((40, 49), PANEL, 3, &[setup("a", 200), setup("c", 200)]);
+    assert_eq!(told, [granted(1, 200), granted(3, 200)]);
+    assert_eq!(s.clock(), ((40, 49), 10));
+    s.dump();
+    // Forward by 61 from there every age is 61 more, each time.
+    assert_eq!(s.tick((40, 108)), (0, 0));
+    assert_eq!(s.tick((40, 109)), (0, 1));
+    assert_eq!(s.ask((40, 110), PANEL, 1, &[setup("a", 200)]), [granted(1, 139)]);
+    assert_eq!(s.tick((40, 49)), (0, 0));
+    assert_eq!(s.ask((40, 110), PANEL, 1, &[setup("a", 200)]), [granted(1, 78)]);
+    assert_eq!(s.clock(), ((40, 110), 132));
+    // Creeping back: the step is from the last place that was kept, not from the last reading.
+    for second in [100, 90, 80, 70, 60, 50] {
+        assert_eq!(s.tick((40, second)), (0, 0));
+        assert_eq!(s.clock(), ((40, 110), 132));
+    }
+    assert_eq!(s.tick((40, 40)), (0, 0));
+    assert_eq!(s.clock(), ((40, 40), 132));
+    assert_eq!(s.tick((40, 117)), (0, 0));
+    assert_eq!(s.tick((40, 118)), (0, 2));
+
+    // Back over the end of the cycle, by 60 and by 61.
+    s.make((0, 30), 1, &[]);
+    assert_eq!(s.ask((0, 30), PANEL, 1, &[setup("a", 60)]), [granted(1, 60)]);
+    assert_eq!(s.tick((1_023, 604_770)), (0, 0));
+    assert_eq!(s.clock(), ((0, 30), 0));
+    assert_eq!(s.tick((1_023, 604_769)), (0, 0));
+    assert_eq!(s.clock(), ((1_023, 604_769), 0));
+    // Half a cycle is a step back, and the lease runs on from there.
+    assert_eq!(s.tick((511, 604_769)), (0, 0));
+    assert_eq!(s.clock(), ((511, 604_769), 0));
+    assert_eq!(s.tick((512, 28)), (0, 0));
+    assert_eq!(s.tick((512, 29)), (0, 1));
+    // One second less is the longest step forward.
+    assert_eq!(s.ask((512, 29), PANEL, 1, &[setup("a", 7_200)]), [granted(1, 7_200)]);
+    assert_eq!(s.tick((0, 28)), (0, 1));
+    assert_eq!(s.clock(), ((0, 28), 60 + 309_657_599));
+    s.dump();
+}
+
+/// A clock set back by a year: leases run on from there and end, and what is told stays right.
+fn set_back_a_year(s: &mut Script) {
+    s.make((500, 1_000), 4, &[]);
+    assert_eq!(s.ask((500, 1_000), PANEL, 7, &[setup("a", 3_600)]), [granted(7, 3_600)]);
+    assert_eq!(s.ask((500, 1_040), PANEL, 7, &[setup("b", 60)]), [granted(8, 60)]);
+    assert_eq!(s.tick((500, 1_050)), (0, 0));
+    // 31,536,000 seconds back.
+    assert_eq!(s.tick((447, 519_450)), (0, 0));
+    assert_eq!(s.clock(), ((447, 519_450), 50));
+    s.dump();
+    // A setup repeated is told what was left, and less as time goes on.
+    assert_eq!(s.ask((447, 519_450), PANEL, 1, &[setup("a", 3_600)]), [granted(7, 3_550)]);
+    assert_eq!(s.ask((447, 519_460), PANEL, 1, &[setup("a", 3_600)]), [granted(7, 3_540)]);
+    // A response with what it was told is right, less than what remains is not.
+    assert_eq!(s.ask((447, 519_470), PANEL, 1, &[response("a", 7, 3_529)]), [no_such(0)]);
+    assert_eq!(s.ask((447, 519_470), PANEL, 1, &[response("a", 7, 3_540)]), [granted(7, 3_530)]);
+    // A new question has its own stamp; each ends by its lease.
+    assert_eq!(s.ask((447, 519_480), PANEL, 9, &[setup("c", 60)]), [granted(9, 60)]);
+    for (second, freed) in
+        [(519_499, 0), (519_500, 1), (519_539, 0), (519_540, 1), (522_999, 0), (523_000, 1)]
+    {
+        assert_eq!(s.tick((447, second)), (0, freed));
+    }
+    s.dump();
+    // The right reading again is a year forward: it ends what is held.
+    assert_eq!(s.ask((447, 523_000), PANEL, 7, &[setup("a", 7_200)]), [granted(7, 7_200)]);
+    assert_eq!(s.tick((500, 4_600)), (0, 1));
+    // Had it been the wrong one, the true ones after it do not stand still.
+    assert_eq!(s.ask((447, 523_010), PANEL, 7, &[setup("a", 60)]), [granted(7, 60)]);
+    assert_eq!(s.tick((447, 523_069)), (0, 0));
+    assert_eq!(s.tick((447, 523_070)), (0, 1));
     s.dump();
 }
 
@@ -968,7 +1046,7 @@ fn sixty_four_slots(s: &mut Script) {
 type List = (&'static str, fn(&mut Script));
 
 /// The lists in their order.
-const LISTS: [List; 25] = [
+const LISTS: [List; 26] = [
     ("nothing made", nothing_made),
     ("W11", w11),
     ("handshake", handshake),
@@ -977,6 +1055,7 @@ const LISTS: [List; 25] = [
     ("full by reserve", full_by_reserve),
     ("week roll-over", week_roll_over),
     ("step back", step_back),
+    ("set back a year", set_back_a_year),
     ("count wraps", count_wraps),
     ("running out", running_out),
     ("refused makings", refused_makings),

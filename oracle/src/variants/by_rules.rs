@@ -2,7 +2,7 @@
 
 use super::Named;
 use crate::calls::{self, Served, Ticked};
-use crate::clock::{self, Clock, CYCLE};
+use crate::clock::{self, Clock, CYCLE, SMALL_STEP_BACK};
 use crate::fault::Fault;
 use crate::query::{LlqNumber, LlqOption, Question, Sender};
 use crate::rules::{error, Allowance, Law, Rules, UNLISTED};
@@ -46,12 +46,24 @@ wrong! {
     StepTieForward
     /// The longest step forward is one backward.
     StepLongestBackward
-    /// A negative step's place is kept.
-    StepBackKeepsPlace
-    /// A negative step is added to the count as well.
-    StepBackCounts
-    /// The week counter's roll-over is not seen.
+    /// The week counter's roll-over is a step back.
     StepNoRollOver
+    /// Every step back changes nothing.
+    StepBackChangesNothing
+    /// Every step back keeps the place.
+    StepBackKeepsPlace
+    StepBack60KeepsPlace
+    StepBack61ChangesNothing
+    StepBackHalfCycleChangesNothing
+    /// Over the cycle's end a small step back is a large one, by the places' own difference.
+    StepBackByPlaces
+    /// A small step back is added to the count, and its place is kept.
+    SmallStepBackCounts
+    /// A large step back is added to the count as well.
+    LargeStepBackCounts
+    /// A large step back is the rest of the cycle forward.
+    LargeStepBackForward
+    LargeStepBackFreesAll
     /// The running count stops at its end.
     CountSaturates
     /// The running count wraps at 2^31.
@@ -170,6 +182,8 @@ wrong! {
 
 thread_local! {
     static NOW: Cell<Wrong> = const { Cell::new(FullToEveryone) };
+    /// The clock's last move was a large step back.
+    static SET_BACK: Cell<bool> = const { Cell::new(false) };
 }
 
 fn now() -> Wrong {
@@ -188,13 +202,25 @@ impl Rules for Bent {
         let right = clock.moved(place);
         let step = clock::step(clock.place, place);
         let ahead = (place + CYCLE).wrapping_sub(clock.place) % CYCLE;
+        let small = (-SMALL_STEP_BACK..0).contains(&step);
+        let large = step < -SMALL_STEP_BACK;
+        SET_BACK.set(large);
         let forward = Clock { place, count: clock.count.wrapping_add(ahead) };
+        let counted = Clock { place, count: clock.count.wrapping_add(step as u32) };
+        let set_back = Clock { place, ..clock };
         match now() {
             StepTieForward if ahead == CYCLE / 2 => forward,
-            StepLongestBackward if ahead == CYCLE / 2 - 1 => clock,
-            StepBackKeepsPlace => Clock { place, ..right },
-            StepBackCounts => Clock { place, count: clock.count.wrapping_add(step as u32) },
-            StepNoRollOver if place < clock.place => clock,
+            StepLongestBackward if ahead == CYCLE / 2 - 1 => set_back,
+            StepNoRollOver if step >= 0 && place < clock.place => set_back,
+            StepBackChangesNothing if step < 0 => clock,
+            StepBackKeepsPlace if step < 0 => set_back,
+            StepBack60KeepsPlace if step == -60 => set_back,
+            StepBack61ChangesNothing if step == -61 => clock,
+            StepBackHalfCycleChangesNothing if ahead == CYCLE / 2 => clock,
+            StepBackByPlaces if small && place > clock.place => set_back,
+            SmallStepBackCounts if small => counted,
+            LargeStepBackCounts if large => counted,
+            LargeStepBackForward if large => forward,
             CountSaturates if step >= 0 => {
                 Clock { place, count: clock.count.saturating_add(step as u32) }
             }
@@ -212,6 +238,7 @@ impl Rules for Bent {
             RunOutEarly => age >= lease - 1,
             RunOutNever => false,
             RunOutEstablishedOnly if !entry.is_established() => false,
+            LargeStepBackFreesAll if SET_BACK.get() => true,
             _ => Law::run_out(entry, count),
         }
     }
