@@ -17,7 +17,7 @@ pub enum Mark {
     StepBack60OverCycleEnd,
     StepBack61OverCycleEnd,
     CreptBack,
-    RanOutAfterSetBack,
+    RanOutWhileSetBack,
     AgedBackAndForth,
     CycleRolledOver,
     CountWrapped,
@@ -77,9 +77,9 @@ impl Mark {
         (Mark::StepBack61OverCycleEnd, "step of -61 over the cycle's end"),
         // One of over 60 seconds that came by several readings, each a little further back.
         (Mark::CreptBack, "clock that crept back"),
-        // Entries held while the clock was set back, and with no new stamp since: run out, or held
-        // still when steps forward have made up for the step back.
-        (Mark::RanOutAfterSetBack, "entry run out after a step back"),
+        // Entries held while the clock was set back, and with no new stamp since: run out before
+        // steps forward have made up for the step back, or held still when they have.
+        (Mark::RanOutWhileSetBack, "entry run out while set back"),
         (Mark::AgedBackAndForth, "entry aged by back and forth"),
         (Mark::CycleRolledOver, "week counter rolled over"),
         (Mark::CountWrapped, "running count wrapped"),

@@ -227,7 +227,7 @@ impl List {
 /// place before the first.
 fn steps_back(random: &mut Random, holdings: &[Holding]) -> Vec<i64> {
     match random.below(8) {
-        // By 10 seconds a call, until it is more than 60.
+        // By 10 seconds a call, to more than 60.
         0..2 => (1..=8).map(|calls| -10 * calls).collect(),
         2 => vec![-60, 0, -60, 0],
         3..5 => vec![-61, 0, -61, 0],

@@ -5,7 +5,7 @@ use crate::coverage::{Coverage, Mark};
 use crate::tally::{Holding, Tally};
 use std::collections::BTreeMap;
 
-/// The steps back on one table since it was made, or written by no call.
+/// The steps back on one table since it was made, or since its bytes were put there by no call.
 #[derive(Default)]
 pub struct SetBack {
     /// By LLQ number, for each entry that was held while the clock was set back and has had no new
@@ -32,7 +32,7 @@ impl SetBack {
         let mut behind = BTreeMap::new();
         for old in &before.holdings {
             let was = self.behind.get(&old.number).copied();
-            ran_out |= was.is_some() && old.age + on >= old.lease;
+            ran_out |= was.is_some_and(|was| on < was) && old.age + on >= old.lease;
             if !after.holdings.iter().any(|new| is_still(new, old, on)) {
                 continue;
             }
@@ -47,7 +47,7 @@ impl SetBack {
         self.behind = behind;
 
         coverage.mark(Mark::CreptBack, crept && !before.holdings.is_empty());
-        coverage.mark(Mark::RanOutAfterSetBack, ran_out);
+        coverage.mark(Mark::RanOutWhileSetBack, ran_out);
         coverage.mark(Mark::AgedBackAndForth, aged);
     }
 }
@@ -104,15 +104,16 @@ mod tests {
 
     #[test]
     fn entries_aged_and_run_out_after_steps_back() {
-        use Mark::{AgedBackAndForth as Aged, RanOutAfterSetBack as RanOut};
+        use Mark::{AgedBackAndForth as Aged, RanOutWhileSetBack as RanOut};
         // Aged when steps forward have made up for the step back, and once for each step back.
-        run(&[300], &[(-61, &[]), (-1, &[]), (0, &[Aged]), (1, &[]), (239, &[RanOut])]);
+        run(&[300], &[(-61, &[]), (-1, &[]), (0, &[Aged]), (1, &[]), (239, &[])]);
         run(&[300], &[(-61, &[]), (1, &[Aged]), (-60, &[]), (0, &[]), (1, &[Aged])]);
         // Two steps back in a row are made up for together.
         run(&[300], &[(-61, &[]), (-122, &[]), (-1, &[]), (0, &[Aged])]);
-        // What runs out is not held still.
-        run(&[61], &[(-61, &[]), (0, &[RanOut])]);
-        run(&[61, 62], &[(-61, &[]), (0, &[RanOut, Aged])]);
+        // What runs out is not held still; it is marked if the clock has not come back before.
+        run(&[60], &[(-61, &[]), (-2, &[]), (-1, &[RanOut])]);
+        run(&[61], &[(-61, &[]), (0, &[])]);
+        run(&[60, 61, 62], &[(-61, &[]), (-1, &[RanOut]), (0, &[Aged])]);
         run(&[60], &[(-31_536, &[]), (-31_477, &[]), (-31_476, &[RanOut])]);
         // Nor does a step back that changes nothing count.
         run(&[60], &[(-60, &[]), (0, &[]), (-59, &[]), (59, &[]), (60, &[])]);

@@ -72,7 +72,7 @@ fn a_repeated_setup_is_told_what_remains() {
     let mut panel = Panel::new(3_600);
     let pending = panel.slots();
     assert_eq!(panel.setup(47, 3_600), (0, 7, 3_560));
-    // The lease asked is not looked at, and a clock set back does not give time back.
+    // The lease asked is not looked at, and a step back does not give time back.
     assert_eq!(panel.setup(47, 0), (0, 7, 3_560));
     assert_eq!(panel.setup(46, 7_200), (0, 7, 3_560));
     assert_eq!(panel.setup(3_606, 60), (0, 7, 1));

@@ -20,7 +20,7 @@ use Rattle.model.proofs.Meaning.{sound-means}
 use Rattle.claims.specs.Tally.{Call, making, ticking, serving, beginTally}
 use Rattle.claims.specs.Events.{Event, made, ticked, served, callOf, tableOf, Happens, Trace, AllInRange, MakeInRange, TickInRange, ServeInRange, InRange}
 use Rattle.claims.specs.Demand3.{Demand3, Along}
-use Rattle.claims.specs.LiveAge.{leftBy, Since, LiveAge}
+use Rattle.claims.specs.LiveAge.{leftBy, Since, Summed}
 use Rattle.claims.specs.CallBuilders.{makeAt, tickAt, datagramAt}
 
 -- BYTES, by a test
@@ -129,9 +129,9 @@ module _ (s : Server) (n : ℕ) (r : List ℕ) where
       claim (tableBuffer n) freshBytes (makeAt 0 0 r) (eventsOf s freshBytes cs) (make-in-range r e) (all-in-range s freshBytes cs ranges)
       (record { number = k; table = refl }) (trace-of s freshBytes cs) .1
 
-  pub since-stamp : LiveAge s → areBytes r → 0 ≡ s .make (makeAt 0 0 r) (tableBuffer n) .number → (cs : List Call) → CallsInRange cs → (j : ℕ) (e : Entry)
+  pub since-stamp : Summed s → areBytes r → 0 ≡ s .make (makeAt 0 0 r) (tableBuffer n) .number → (cs : List Call) → CallsInRange cs → (j : ℕ) (e : Entry)
       → slotOf (readTable (leftBy freshBytes (eventsOf s freshBytes cs))) j ≡ held e
       → Since (length (tableBuffer n)) (beginTally (length (tableBuffer n)) (makeAt 0 0 r)) freshBytes (eventsOf s freshBytes cs) j e
   since-stamp claim e k cs ranges =
-      claim .summed (tableBuffer n) freshBytes (makeAt 0 0 r) (eventsOf s freshBytes cs) (make-in-range r e) (all-in-range s freshBytes cs ranges)
+      claim (tableBuffer n) freshBytes (makeAt 0 0 r) (eventsOf s freshBytes cs) (make-in-range r e) (all-in-range s freshBytes cs ranges)
       (record { number = k; table = refl }) (trace-of s freshBytes cs)

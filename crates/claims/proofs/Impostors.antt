@@ -27,7 +27,7 @@ use Rattle.claims.specs.Refusals.{Refusals, ReadingFault, weekTooLarge, 
 use Rattle.claims.specs.Established.{FirstResponse, PendingAfter, EstablishedExactly}
 use Rattle.claims.specs.Tick.{TickDone, Ticking}
 use Rattle.claims.specs.Reply.{ReplyClaim}
-use Rattle.claims.specs.LiveAge.{AnsweredDatagram, addedAlong, tallyAlong, LiveAge}
+use Rattle.claims.specs.LiveAge.{AnsweredDatagram, addedAlong, tallyAlong, Summed}
 use Rattle.claims.specs.Repeats.{ToldLeases}
 use Rattle.claims.specs.Resumes.{Resumes}
 use Rattle.claims.specs.Samples.{ClockSamples}
@@ -335,7 +335,7 @@ only-first e c c2 k k2 f f2 b b2 (x ∷ x2 ∷ []) rest g p a =
 only-first e c c2 k k2 f f2 b b2 (x ∷ x2 ∷ x3 ∷ xs) rest g p a =
     absurd (omega (arith, length-append xs (g ∷ rest), ap (λ (l : List Event). length (tailOf (tailOf (tailOf l)))) p))
 
-keeps-always-age : LiveAge keepsAlways → ⊥
+keeps-always-age : Summed keepsAlways → ⊥
 unfolding all-definitions backAndForth strangersEntry
 keeps-always-age k =
     let size = length (tableBuffer 1) in

@@ -18,7 +18,7 @@ use Rattle.model.proofs.ClockLaws.{fresh-age}
 use Rattle.model.proofs.CallLaws.{make-number, make-answered}
 use Rattle.claims.specs.Tally.{Tally, passed, judged, beginTally, tallyAfter}
 use Rattle.claims.specs.Events.{Event, made, ticked, served, callOf, numberOf, tableOf, Happens, Trace, MakeInRange, AllInRange}
-use Rattle.claims.specs.LiveAge.{stepIn, stepsAlong, leftBy, Stamped, StampedAlong, ageIn, addedBy, addedAlong, SameStamp, SameStampAlong, AnsweredDatagram, Since, LiveAge}
+use Rattle.claims.specs.LiveAge.{stepIn, stepsAlong, leftBy, Stamped, StampedAlong, ageIn, addedBy, addedAlong, SameStamp, SameStampAlong, AnsweredDatagram, Since, Summed, LiveAge}
 use Rattle.claims.proofs.Demand3.CallSteps.{Invariant, make-kept, kept-step, number-step}
 use Rattle.claims.proofs.LiveAge.AgeSteps.{read-place, some-held, ages-along, grows, younger, sound-along}
 use Rattle.claims.proofs.LiveAge.SlotSteps.{same-self, same-through, call-step}
@@ -108,8 +108,7 @@ module _ (size j : ℕ) (e : Entry) where
       go (inr s) = inr (behind-one b y x es s)
 
 -- from a fresh table on there was none at the start
-summed : (before after : List ℕ) (c : MakeCall) (es : List Event) → MakeInRange c → AllInRange es → Happens model before (made c 0 after) → Trace model after es
-    → (j : ℕ) (e : Entry) → slotOf (readTable (leftBy after es)) j ≡ held e → Since (length before) (beginTally (length before) c) after es j e
+summed : Summed model
 summed before after c es range ranges h trace j e w = go (at-end (length before) j e after (beginTally (length before) c) es ranges x trace w)
   where
     z : makeRefusal c (length before) ≡ 0

@@ -1,5 +1,5 @@
--- Wrong servers: document 01's impostors, the old box's five faults, six that tell or take a lease wrongly, and five that move the clock wrongly
--- when it goes back; each the model with one part wrong, and the claim that each breaks. Assumes nothing.
+-- Wrong servers: document 01's impostors, the old box's five faults, six that tell or take a lease wrongly, four that move the clock wrongly when
+-- it goes back, and one that then frees every entry; each the model with one part wrong, and the claim that each breaks. Assumes nothing.
 use Prim.Native.Nat.{ℕ, zero, suc, _+_, _-_, _%_, _^_}
 use mathlib.Core.Bool.{Bool, not, cond, _&&_, _||_}
 use mathlib.Core.List.{List, [], _∷_, _++_, map}
@@ -21,7 +21,7 @@ use Rattle.claims.specs.Established.{EstablishedExactly}
 use Rattle.claims.specs.Tick.{Ticking}
 use Rattle.claims.specs.Demand3.{Demand3}
 use Rattle.claims.specs.Reply.{ReplyClaim}
-use Rattle.claims.specs.LiveAge.{LiveAge}
+use Rattle.claims.specs.LiveAge.{Summed}
 use Rattle.claims.specs.Repeats.{ToldLeases}
 use Rattle.claims.specs.Resumes.{Resumes}
 use Rattle.claims.specs.Samples.{ClockSamples}
@@ -293,7 +293,7 @@ setTo c to k = record { place = to; running = c .running }
 abbrev pub freezes : Server
 freezes = withBack stands
 
--- every step back keeps the place, one of 60 seconds too
+-- every step back keeps the new place, one of 60 seconds too
 abbrev pub keepsAlways : Server
 keepsAlways = withBack setTo
 
@@ -301,7 +301,7 @@ keepsAlways = withBack setTo
 abbrev pub waitsFor61 : Server
 waitsFor61 = withBack (λ c to k. cond (leb k 61) (stands c to k) (setTo c to k))
 
--- a large step back is added to the running count, modulo 2^32, and its place is kept: so a life grows again after it was told
+-- a large step back is added to the running count, modulo 2^32, and the new place is kept: so a life grows again after it was told
 abbrev pub countsBack : Server
 countsBack = withBack (λ c to k. cond (leb k slack) (stands c to k) (record { place = to; running = (c .running + 2 ^ 32 - k) % 2 ^ 32 }))
 
@@ -335,7 +335,7 @@ pub record Refuted : Type 0 where
   pub openBelow : EstablishedExactly openBelow → ⊥
   pub sentLessAge : Demand3 sentLessAge → ⊥
   pub freezes : Demand3 freezes → ⊥
-  pub keepsAlways : (LiveAge keepsAlways → ⊥) × (Demand3 keepsAlways → ⊥)
+  pub keepsAlways : (Summed keepsAlways → ⊥) × (Demand3 keepsAlways → ⊥)
   pub waitsFor61 : Demand3 waitsFor61 → ⊥
   pub countsBack : (Ticking countsBack → ⊥) × (ToldLeases countsBack → ⊥)
   pub endsOnSetBack : Ticking endsOnSetBack → ⊥

@@ -108,6 +108,19 @@ pub record Since (size : ℕ) (y : Tally) (b : List ℕ) (es : List Event) (j : 
   pub age : ageIn (leftBy b es) (e .stamp) ≡ addedSince size y earlier stamping rest
   pub live : addedSince size y earlier stamping rest < e .lease
 
+-- OF EVERY LIST OF DEMAND 3, from an answered making on: whatever entry a slot holds at the end, its age is the sum of what the calls since its
+-- stamp added
+abbrev pub Summed : Server → Type 0
+Summed s =
+    (before after : List ℕ) (c : MakeCall) (es : List Event)
+    → MakeInRange c
+    → AllInRange es
+    → Happens s before (made c 0 after)
+    → Trace s after es
+    → (j : ℕ) (e : Entry)
+    → slotOf (readTable (leftBy after es)) j ≡ held e
+    → Since (length before) (beginTally (length before) c) after es j e
+
 -- THE CLAIM
 pub record LiveAge (s : Server) : Type 0 where
   -- of any list of calls on a sound table along which a slot holds an entry of one stamp: the age at the end is the age at the start and the steps
@@ -117,7 +130,5 @@ pub record LiveAge (s : Server) : Type 0 where
   -- from the table in which it was stamped on, the age is the steps
   pub sinceStamp : (b : List ℕ) (es : List Event) (j stamp : ℕ) → SoundBytes b → AllInRange es → Trace s b es → Stamped j stamp b → StampedAlong j stamp es
       → stamp ≡ readTable b .clock .running → ageIn (leftBy b es) stamp ≡ stepsAlong b es
-  -- of every list of demand 3, from an answered making on: whatever entry a slot holds at the end, its age is the sum of what the calls since its
-  -- stamp added
-  pub summed : (before after : List ℕ) (c : MakeCall) (es : List Event) → MakeInRange c → AllInRange es → Happens s before (made c 0 after) → Trace s after es
-      → (j : ℕ) (e : Entry) → slotOf (readTable (leftBy after es)) j ≡ held e → Since (length before) (beginTally (length before) c) after es j e
+  -- by the calls alone
+  pub summed : Summed s

@@ -1,5 +1,5 @@
--- A clock that was set back runs on from where it was set to, and one that went back a little stands until it is back where it was (document 02,
--- Ticket 4): of any way to move the clock. Assumes nothing.
+-- A clock that was set back runs on from where it was set to, and one that went back a little and on again loses as much as it went back
+-- (document 02, Ticket 4): of any way to move the clock. Assumes nothing.
 use Prim.Native.Nat.{ℕ, _+_, _-_, _%_, _^_, _≤_, _<_}
 use mathlib.Core.Path.{_≡_}
 use Rattle.model.specs.Clock.{Clock}

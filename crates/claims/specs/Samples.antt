@@ -81,7 +81,7 @@ clockSamples =
     moves 1000 7 1000 1000 7  -- 0, −1 and −60 change nothing,
     ∷ moves 1000 7 999 1000 7
     ∷ moves 1000 7 940 1000 7
-    ∷ moves 1000 7 939 939 7  -- −61 keeps the place,
+    ∷ moves 1000 7 939 939 7  -- −61 keeps the new place,
     ∷ moves 1000 7 1001 1001 8  -- and 1 is counted
     ∷ moves 30 7 619315170 30 7  -- around the end of the cycle: −60
     ∷ moves 30 7 619315169 619315169 7  -- and −61

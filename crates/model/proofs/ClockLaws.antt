@@ -136,7 +136,7 @@ placed week second h =
     let b = ltb-true second 604800 (and-right (ltb week 1024) (ltb second 604800) h) in
     omega arith
 
--- a step of 0 or more is added to the count, and the place is kept; one back of 60 seconds or less changes nothing, a larger one keeps the place
+-- a step of 0 or more is added to the count, and the place is kept; one back of 60 seconds or less changes nothing, a larger one keeps the new place
 pub advance-on : (c : Clock) (to n : ℕ) → step (c .place) to ≡ pos n → advance c to ≡ record { place = to; running = (c .running + n) % 2 ^ 32 }
 unfolding advance
 advance-on c to n e = rw e

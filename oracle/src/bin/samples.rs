@@ -512,7 +512,7 @@ fn week_roll_over(s: &mut Script) {
     s.dump();
 }
 
-/// Steps back: of 60 seconds or less nothing changes, of more the count stays and the place is kept.
+/// Steps back: of 60 seconds or less nothing changes, of more the count stays and the new place is kept.
 fn step_back(s: &mut Script) {
     s.make((40, 100), 4, &[]);
     assert_eq!(s.ask((40, 110), PANEL, 1, &[setup("a", 200)]), [granted(1, 200)]);
@@ -594,7 +594,7 @@ fn set_back_a_year(s: &mut Script) {
     // The right reading again is a year forward: it ends what is held.
     assert_eq!(s.ask((447, 523_000), PANEL, 7, &[setup("a", 7_200)]), [granted(7, 7_200)]);
     assert_eq!(s.tick((500, 4_600)), (0, 1));
-    // Had it been the wrong one, the true ones after it do not stand still.
+    // Had it been the wrong one: leases run on by the true readings after it.
     assert_eq!(s.ask((447, 523_010), PANEL, 7, &[setup("a", 60)]), [granted(7, 60)]);
     assert_eq!(s.tick((447, 523_069)), (0, 0));
     assert_eq!(s.tick((447, 523_070)), (0, 1));
