@@ -22,7 +22,7 @@ use Rattle.claims.specs.NumbersInBytes.{NumbersInBytes}
 use Rattle.claims.specs.TableLayout.{TableLayout}
 use Rattle.claims.specs.OneSlot.{OneSlot}
 use Rattle.claims.specs.Contracts.{CallsExactly, ContractsExactly}
-use Rattle.claims.specs.Impostors.{Refuted}
+use Rattle.claims.specs.Impostors.{Refuted, OwnPlaces}
 use Rattle.claims.specs.Step.{StepMeaning}
 use Rattle.claims.specs.Resumes.{Resumes}
 use Rattle.claims.proofs.Refusals.{refusals}
@@ -46,6 +46,7 @@ use Rattle.claims.proofs.TableLayout.{table-layout}
 use Rattle.claims.proofs.OneSlot.{one-slot}
 use Rattle.claims.proofs.Contracts.{calls-exactly, contracts-exactly}
 use Rattle.claims.proofs.Impostors.{refuted}
+use Rattle.claims.proofs.OwnPlaces.{own-places}
 use Rattle.claims.proofs.Step.{step-meaning}
 use Rattle.claims.proofs.Resumes.{resumes}
 
@@ -101,6 +102,8 @@ pub record Claims (s : Server) : Type 0 where
   pub contracts : ContractsExactly
   -- twenty-three wrong servers break a claim each
   pub refuted : Refuted
+  -- one of them passes what `LiveAge` says by the places that a table holds
+  pub ownPlaces : OwnPlaces
 
 pub claims : Claims model
 claims =
@@ -134,4 +137,5 @@ claims =
       calls = calls-exactly model;
       contracts = contracts-exactly;
       refuted = refuted;
+      ownPlaces = own-places;
     }

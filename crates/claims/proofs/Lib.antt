@@ -19,6 +19,7 @@ pub mod Reading
 pub mod AnySound
 pub mod CallBuilders
 pub mod Impostors
+pub mod OwnPlaces
 pub mod StoredNames
 pub mod SoundRules
 pub mod TableLayout

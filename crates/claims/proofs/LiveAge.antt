@@ -12,15 +12,15 @@ use lib.Dec.{eqb}
 use Rattle.model.specs.Clock.{ageAt}
 use Rattle.model.specs.Table.{Entry, held, readTable}
 use Rattle.model.specs.Serve.{slotOf}
-use Rattle.model.specs.Calls.{MakeCall, Made, makeRefusal, madeBy}
+use Rattle.model.specs.Calls.{Made, makeRefusal, madeBy}
 use Rattle.model.specs.Meets.{model}
 use Rattle.model.proofs.ClockLaws.{fresh-age}
 use Rattle.model.proofs.CallLaws.{make-number, make-answered}
 use Rattle.claims.specs.Tally.{Tally, passed, judged, beginTally, tallyAfter}
-use Rattle.claims.specs.Events.{Event, made, ticked, served, callOf, numberOf, tableOf, Happens, Trace, MakeInRange, AllInRange}
+use Rattle.claims.specs.Events.{Event, made, ticked, served, callOf, numberOf, tableOf, Trace, AllInRange}
 use Rattle.claims.specs.LiveAge.{stepIn, stepsAlong, leftBy, Stamped, StampedAlong, ageIn, addedBy, addedAlong, SameStamp, SameStampAlong, AnsweredDatagram, Since, Summed, LiveAge}
 use Rattle.claims.proofs.Demand3.CallSteps.{Invariant, make-kept, kept-step, number-step}
-use Rattle.claims.proofs.LiveAge.AgeSteps.{read-place, some-held, ages-along, grows, younger, sound-along}
+use Rattle.claims.proofs.LiveAge.AgeSteps.{read-place, some-held, ages-along, grows, since-stamped, younger, sound-along}
 use Rattle.claims.proofs.LiveAge.SlotSteps.{same-self, same-through, call-step}
 
 -- BY THE CALLS ALONE: a call adds what the places of the table say
@@ -125,12 +125,4 @@ summed before after c es range ranges h trace j e w = go (at-end (length before)
     go (inr s) = s
 
 pub live-age : LiveAge model
-live-age =
-    record {
-      grows = grows;
-      sinceStamp = λ b es j stamp s ranges h here all e.
-          let start : ageIn b stamp ≡ 0 =
-          ap (λ (z : ℕ). ageAt (readTable b .clock .running) z) e ∙ fresh-age (readTable b .clock .running) in
-          grows b es j stamp s ranges h here all ∙ omega arith;
-      summed = summed;
-    }
+live-age = record { grows = grows; sinceStamp = since-stamped model grows; summed = summed }

@@ -21,7 +21,7 @@ use Rattle.claims.specs.Established.{EstablishedExactly}
 use Rattle.claims.specs.Tick.{Ticking}
 use Rattle.claims.specs.Demand3.{Demand3}
 use Rattle.claims.specs.Reply.{ReplyClaim}
-use Rattle.claims.specs.LiveAge.{Summed}
+use Rattle.claims.specs.LiveAge.{Grows, SinceStamp, Summed}
 use Rattle.claims.specs.Repeats.{ToldLeases}
 use Rattle.claims.specs.Resumes.{Resumes}
 use Rattle.claims.specs.Samples.{ClockSamples}
@@ -313,6 +313,10 @@ freedOnBack t place (negsuc n) =
 
 abbrev pub endsOnSetBack : Server
 endsOnSetBack = withMove (λ t place. freedOnBack t place (step (t .clock .place) place))
+
+-- BY THE PLACES THAT IT HOLDS ITSELF `keepsAlways` adds up, so that of `LiveAge` the sum by the calls alone tells it apart
+abbrev pub OwnPlaces : Type 0
+OwnPlaces = Grows keepsAlways × SinceStamp keepsAlways
 
 -- EACH BREAKS A CLAIM
 pub record Refuted : Type 0 where

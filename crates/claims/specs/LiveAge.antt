@@ -108,6 +108,19 @@ pub record Since (size : ℕ) (y : Tally) (b : List ℕ) (es : List Event) (j : 
   pub age : ageIn (leftBy b es) (e .stamp) ≡ addedSince size y earlier stamping rest
   pub live : addedSince size y earlier stamping rest < e .lease
 
+-- OF ANY LIST OF CALLS on a sound table along which a slot holds an entry of one stamp: the age at the end is the age at the start and the steps
+-- between
+abbrev pub Grows : Server → Type 0
+Grows s =
+    (b : List ℕ) (es : List Event) (j stamp : ℕ) → SoundBytes b → AllInRange es → Trace s b es → Stamped j stamp b → StampedAlong j stamp es
+    → ageIn (leftBy b es) stamp ≡ ageIn b stamp + stepsAlong b es
+
+-- from the table in which it was stamped on, the age is the steps
+abbrev pub SinceStamp : Server → Type 0
+SinceStamp s =
+    (b : List ℕ) (es : List Event) (j stamp : ℕ) → SoundBytes b → AllInRange es → Trace s b es → Stamped j stamp b → StampedAlong j stamp es
+    → stamp ≡ readTable b .clock .running → ageIn (leftBy b es) stamp ≡ stepsAlong b es
+
 -- OF EVERY LIST OF DEMAND 3, from an answered making on: whatever entry a slot holds at the end, its age is the sum of what the calls since its
 -- stamp added
 abbrev pub Summed : Server → Type 0
@@ -123,12 +136,8 @@ Summed s =
 
 -- THE CLAIM
 pub record LiveAge (s : Server) : Type 0 where
-  -- of any list of calls on a sound table along which a slot holds an entry of one stamp: the age at the end is the age at the start and the steps
-  -- between
-  pub grows : (b : List ℕ) (es : List Event) (j stamp : ℕ) → SoundBytes b → AllInRange es → Trace s b es → Stamped j stamp b → StampedAlong j stamp es
-      → ageIn (leftBy b es) stamp ≡ ageIn b stamp + stepsAlong b es
-  -- from the table in which it was stamped on, the age is the steps
-  pub sinceStamp : (b : List ℕ) (es : List Event) (j stamp : ℕ) → SoundBytes b → AllInRange es → Trace s b es → Stamped j stamp b → StampedAlong j stamp es
-      → stamp ≡ readTable b .clock .running → ageIn (leftBy b es) stamp ≡ stepsAlong b es
+  -- by the places that the table holds
+  pub grows : Grows s
+  pub sinceStamp : SinceStamp s
   -- by the calls alone
   pub summed : Summed s

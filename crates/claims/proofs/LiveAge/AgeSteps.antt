@@ -16,16 +16,16 @@ use Rattle.model.specs.Rules.{holdings}
 use Rattle.model.specs.Sound.{live, Sound, FitsEntry, FitsSlot, SoundBytes}
 use Rattle.model.specs.Serve.{slotOf}
 use Rattle.model.specs.Calls.{MakeCall, TickCall, ServeCall}
-use Rattle.model.specs.Meets.{model}
+use Rattle.model.specs.Meets.{Server, model}
 use Rattle.model.proofs.ListLaws.{either, every-none}
-use Rattle.model.proofs.ClockLaws.{ages}
+use Rattle.model.proofs.ClockLaws.{ages, fresh-age}
 use Rattle.model.proofs.StepLaws.{fits-slot-of, young}
 use Rattle.model.proofs.Meaning.{read-stored}
 use Rattle.model.proofs.HoldingLaws.{count-held, held-obeys}
 use Rattle.claims.specs.Tally.{Tally, making, ticking, serving, passed, judged, moveTally, tallyAfter}
 use Rattle.claims.specs.Events.{Event, made, ticked, served, callOf, numberOf, tableOf, Happens, Trace, InRange, AllInRange}
 use Rattle.claims.specs.Changes.{ageOf}
-use Rattle.claims.specs.LiveAge.{stepIn, stepsAlong, leftBy, Stamped, StampedAlong, ageIn}
+use Rattle.claims.specs.LiveAge.{stepIn, stepsAlong, leftBy, Stamped, StampedAlong, ageIn, Grows, SinceStamp}
 use Rattle.claims.specs.AnySound.{tallyOf}
 use Rattle.claims.proofs.Relation.MoveKeeps.{passed-less}
 use Rattle.claims.proofs.Demand3.TallyLaws.{before-running}
@@ -110,7 +110,7 @@ stepIn-less place (made c k after) = omega arith
 stepIn-less place (ticked c k freed after) = step-less k place (c .week * 604800 + c .second)
 stepIn-less place (served c lent k m after left) = step-less k place (c .week * 604800 + c .second)
 
-age-step : (size : ℕ) (b : List ℕ) (y : Tally) (e : Event) (j stamp : ℕ) → InRange (callOf e) → Invariant size b y → Happens model b e
+pub age-step : (size : ℕ) (b : List ℕ) (y : Tally) (e : Event) (j stamp : ℕ) → InRange (callOf e) → Invariant size b y → Happens model b e
     → Stamped j stamp b → Stamped j stamp (tableOf e)
     → ageIn (tableOf e) stamp ≡ ageIn b stamp + stepIn (readTable b .clock .place) e
 age-step size b y e j stamp range x h here there =
@@ -144,10 +144,15 @@ kept-self b s =
       room = refl;
     }
 
-pub grows : (b : List ℕ) (es : List Event) (j stamp : ℕ) → SoundBytes b → AllInRange es → Trace model b es → Stamped j stamp b → StampedAlong j stamp es
-    → ageIn (leftBy b es) stamp ≡ ageIn b stamp + stepsAlong b es
+pub grows : Grows model
 grows b es j stamp s ranges h here all =
     ages-along (sizeOf (length (readTable b .slots))) b (tallyOf (readTable b)) es j stamp ranges (kept-self b s) h here all
+
+-- of a stamp of now, by any server
+pub since-stamped : (s : Server) → Grows s → SinceStamp s
+since-stamped s g b es j stamp sound ranges h here all e =
+    let start : ageIn b stamp ≡ 0 = ap (λ (z : ℕ). ageAt (readTable b .clock .running) z) e ∙ fresh-age (readTable b .clock .running) in
+    g b es j stamp sound ranges h here all ∙ omega arith
 
 -- STILL LIVE AT THE END
 

@@ -1,0 +1,288 @@
+-- By the places that it holds itself `keepsAlways`, which keeps the new place of every step back, adds up: each of its calls leaves the model's table
+-- but for the place. Assumes nothing.
+use Prim.Native.Nat.{ℕ, zero, suc, _+_, _<_}
+use native.Mathlib.Nat.{add-assoc}
+use native.Mathlib.Omega.{arith}
+use mathlib.Core.Path.{_≡_, refl, sym, ap, _∙_, subst}
+use mathlib.Core.Bool.{Bool, true, false, cond}
+use mathlib.Core.List.{List, [], _∷_, map}
+use lib.ListN.{length}
+use lib.IntN.{ℤ, pos, negsuc}
+use lib.Dec.{eqb, leb}
+use Rattle.model.specs.Lists.{count}
+use Rattle.model.specs.Clock.{Clock, cycle, slack, step, moved, advance, ageAt, placeOf}
+use Rattle.model.specs.Query.{Question, LlqOption, question, llqOption}
+use Rattle.model.specs.Table.{Slot, free, held, Table, readTable, tableBytes, sizeOf}
+use Rattle.model.specs.Rules.{holdings, grantedLease, full}
+use Rattle.model.specs.Sound.{Sound, Fits, SoundBytes}
+use Rattle.model.specs.Serve.{Sender, Served, Kind, withClock, withSlot, ended, renew, retryLater, granted, freeRunOut, badVersion, badFormat, setup, response, refresh, slotOf, movedOn, freeIfRunOut, findEntry, kindOfOption, onSetup, serveSetup, onResponse, serveResponse, onRefresh, serveRefresh, serveKind, serveOption}
+use Rattle.model.specs.Calls.{TickCall, ServeCall, tickRefusal, serveRefusal, tableBefore, tableAfter, tick, serve}
+use Rattle.model.specs.Meets.{model}
+use Rattle.model.proofs.ListLaws.{either}
+use Rattle.model.proofs.RoundTrip.{table-back}
+use Rattle.model.proofs.ClockLaws.{placed}
+use Rattle.model.proofs.CallLaws.{tick-number, tick-answered, serve-number, serve-answered}
+use Rattle.claims.specs.Tally.{tallyBefore, moveTally}
+use Rattle.claims.specs.Events.{Event, made, ticked, served, callOf, tableOf, Happens, InRange, TickInRange, ServeInRange}
+use Rattle.claims.specs.Changes.{doneOptions}
+use Rattle.claims.specs.LiveAge.{stepIn, stepsAlong, Stamped, ageIn, Grows}
+use Rattle.claims.specs.AnySound.{tallyOf}
+use Rattle.claims.specs.Impostors.{Parts, tableWith, tickWith, serveWith, onBack, moveBack, setTo, keepsAlways, OwnPlaces}
+use Rattle.claims.proofs.AcceptedCalls.{tick-accepted, serve-accepted}
+use Rattle.claims.proofs.Refusals.{refusals}
+use Rattle.claims.proofs.Demand3.CallSteps.{kept-stored, kept-step}
+use Rattle.claims.proofs.Relation.MoveKeeps.{move-keeps}
+use Rattle.claims.proofs.Relation.DatagramKeeps.{done-le, datagram-keeps}
+use Rattle.claims.proofs.Relation.TableTally.{related-read, read-back}
+use Rattle.claims.proofs.LiveAge.AgeSteps.{kept-self, age-step, since-stamped}
+
+-- ANOTHER PLACE in a table's clock
+abbrev withPlace : ℕ → Table → Table
+withPlace p t = record { clock = record { place = p; running = t .clock .running }; roster = t .roster; slots = t .slots }
+
+abbrev placedIn : ℕ → Served → Served
+placedIn p x = record { table = withPlace p (x .table); outcome = x .outcome }
+
+-- an option does not look at it
+module _ (p : ℕ) (t : Table) (s : Sender) (r : ℕ) (q : Question) (o : LlqOption) where
+  by-test : (v : Bool) (x y : Served) → cond v (placedIn p x) (placedIn p y) ≡ placedIn p (cond v x y)
+  by-test true x y = refl
+  by-test false x y = refl
+
+  on-setup : (z : Slot) → onSetup s r q o (withPlace p t) z ≡ placedIn p (onSetup s r q o t z)
+  unfolding onSetup
+  on-setup (held e) = refl
+  on-setup free =
+      by-test (full (length (t .slots)) (t .roster) (count (holdings t)) (s .address)) (record { table = t; outcome = retryLater o }) (granted s r q o t)
+
+  on-response : (i : ℕ) (z : Slot) → onResponse o (withPlace p t) i z ≡ placedIn p (onResponse o t i z)
+  unfolding onResponse
+  on-response i (held e) = refl
+  on-response i free = refl
+
+  on-refresh : (i : ℕ) (z : Slot) → onRefresh o (withPlace p t) i z ≡ placedIn p (onRefresh o t i z)
+  unfolding onRefresh
+  on-refresh i (held e) =
+      by-test (eqb (o .lease) 0)
+      (record { table = withSlot t i ended; outcome = record { opcode = o .opcode; error = 0; number = e .number; lease = 0 } })
+      (record {
+        table = withSlot t i (held (renew (t .clock .running) (o .lease) e));
+        outcome = record { opcode = o .opcode; error = 0; number = e .number; lease = grantedLease (o .lease) };
+      })
+  on-refresh i free = refl
+
+  on-kind : (k : Kind) → serveKind k s r q o (withPlace p t) ≡ placedIn p (serveKind k s r q o t)
+  unfolding serveKind serveSetup serveResponse serveRefresh findEntry
+  on-kind badVersion = refl
+  on-kind badFormat = refl
+  on-kind setup = on-setup _
+  on-kind response = on-response _ _
+  on-kind refresh = on-refresh _ _
+
+-- a sound table with another place on the cycle is sound
+module _ (p : ℕ) (h : p < cycle) (t : Table) (s : Sound t) (f : Fits t) where
+  sound-placed : Sound (withPlace p t)
+  sound-placed =
+      record {
+        place = h;
+        slotsMin = s .slotsMin;
+        slotsMax = s .slotsMax;
+        lines = s .lines;
+        listedOnce = s .listedOnce;
+        validLines = s .validLines;
+        shareSum = s .shareSum;
+        nonZero = s .nonZero;
+        numbers = s .numbers;
+        leases = s .leases;
+        ages = s .ages;
+        names = s .names;
+        questions = s .questions;
+        limits = s .limits;
+        reserved = s .reserved;
+      }
+
+  fits-placed : Fits (withPlace p t)
+  fits-placed = record { place = omega (arith, h); running = f .running; lines = f .lines; slots = f .slots }
+
+  read-placed : readTable (tableBytes (withPlace p t)) ≡ withPlace p t
+  read-placed = table-back (withPlace p t) (s .lines) fits-placed
+
+  stored-placed : SoundBytes (tableBytes (withPlace p t))
+  stored-placed = record { table = withPlace p t; sound = sound-placed; fits = fits-placed; bytes = refl }
+
+-- THE CLOCK OF keepsAlways: the model's count, at a place of its own
+same-count : (c : Clock) (to : ℕ) → moveBack setTo c to .running ≡ advance c to .running
+unfolding advance
+same-count c to = go (step (c .place) to)
+  where
+    go : (z : ℤ) → onBack setTo c to z .running ≡ moved c to z .running
+    go (pos n) = refl
+    go (negsuc n) = either (λ (k : Clock). c .running ≡ k .running) (leb (n + 1) slack) refl refl
+
+own-place : (c : Clock) (to : ℕ) → to < cycle → moveBack setTo c to .place < cycle
+own-place c to h = go (step (c .place) to)
+  where
+    go : (z : ℤ) → onBack setTo c to z .place < cycle
+    go (pos n) = h
+    go (negsuc n) = h
+
+abbrev parts : Parts
+parts = record { moves = λ t place. freeRunOut (withClock t (moveBack setTo (t .clock) place)); option = serveOption }
+
+moves-placed : (t : Table) (to : ℕ) → parts .moves t to ≡ withPlace (moveBack setTo (t .clock) to .place) (movedOn t to)
+unfolding movedOn
+moves-placed t to =
+    ap
+    (λ (r : ℕ).
+    record { clock = record { place = moveBack setTo (t .clock) to .place; running = r }; roster = t .roster; slots = map (freeIfRunOut r) (t .slots) })
+    (same-count (t .clock) to)
+
+table-placed : (c : ServeCall) (t : Table) (i : ℕ)
+    → tableWith parts c t i ≡ withPlace (moveBack setTo (t .clock) (placeOf (c .week) (c .second)) .place) (tableBefore c t i)
+unfolding tableWith tableBefore
+table-placed c t zero = moves-placed t (placeOf (c .week) (c .second))
+table-placed c t (suc i) =
+    let p = moveBack setTo (t .clock) (placeOf (c .week) (c .second)) .place in
+    ap (λ (u : Table). serveOption (c .sender) (c .random) (question (c .datagram) i) (llqOption (c .datagram) i) u .table) (table-placed c t i)
+    ∙ ap (λ (x : Served). x .table) (on-kind p (tableBefore c t i) (c .sender) (c .random) (question (c .datagram) i) (llqOption (c .datagram) i) (kindOfOption (llqOption (c .datagram) i)))
+
+-- ONE CALL beside the model's on the same bytes: the table that it leaves is the model's but for the place, and sound
+record Beside (b : List ℕ) (e : Event) : Type 0 where
+  other : Event
+  happens : Happens model b other
+  range : InRange (callOf other)
+  steps : (place : ℕ) → stepIn place other ≡ stepIn place e
+  place : ℕ
+  read : readTable (tableOf e) ≡ withPlace place (readTable (tableOf other))
+  sound : SoundBytes (tableOf e)
+
+-- bytes that are the same
+same-bytes : (b after : List ℕ) → SoundBytes b → after ≡ b
+    → (readTable after ≡ withPlace (readTable b .clock .place) (readTable b)) × SoundBytes after
+same-bytes b after s e = (ap readTable e, subst SoundBytes (sym e) s)
+
+tick-beside : (b : List ℕ) (c : TickCall) (k freed : ℕ) (after : List ℕ) → SoundBytes b → TickInRange c → Happens keepsAlways b (ticked c k freed after)
+    → Beside b (ticked c k freed after)
+tick-beside b c k freed after s range h = go (tickRefusal c b) refl
+  where
+    t : Table
+    t = readTable b
+
+    at : ℕ
+    at = placeOf (c .week) (c .second)
+
+    go : (n : ℕ) → tickRefusal c b ≡ n → Beside b (ticked c k freed after)
+    go zero e =
+        let m = h .number ∙ ap (λ (n : ℕ). tickWith parts n c b .number) e in
+        let left : after ≡ tableBytes (withPlace (moveBack setTo (t .clock) at .place) (movedOn t at)) =
+        h .table ∙ ap (λ (n : ℕ). tickWith parts n c b .table) e ∙ ap tableBytes (moves-placed t at) in
+        let in-cycle = placed (c .week) (c .second) (tick-accepted c b e) in
+        let r = move-keeps t (tallyOf t) at in-cycle (related-read b s) in
+        let p = moveBack setTo (t .clock) at .place in
+        let hp = own-place (t .clock) at in-cycle in
+        record {
+          other = ticked c 0 (tick c b .freed) (tick c b .table);
+          happens = record { number = sym (tick-number c b ∙ e); freed = refl; table = refl };
+          range = range;
+          steps = λ place. ap (λ (n : ℕ). stepIn place (ticked c n 0 [])) (sym m);
+          place = p;
+          read = ap readTable left ∙ read-placed p hp (movedOn t at) (r .sound) (r .fits)
+              ∙ ap (withPlace p) (sym (ap (λ (x : _). readTable (x .table)) (tick-answered c b e) ∙ read-back (movedOn t at) (moveTally (tallyOf t) at) r));
+          sound = subst SoundBytes (sym left) (stored-placed p hp (movedOn t at) (r .sound) (r .fits));
+        }
+    go (suc n) e =
+        let m = h .number ∙ ap (λ (n : ℕ). tickWith parts n c b .number) e in
+        let same = same-bytes b after s (h .table ∙ ap (λ (n : ℕ). tickWith parts n c b .table) e) in
+        let kept : tick c b .table ≡ b = refusals .tickRefused c b (λ z. omega (arith, z, tick-number c b, e)) .0 in
+        record {
+          other = ticked c (suc n) (tick c b .freed) (tick c b .table);
+          happens = record { number = sym (tick-number c b ∙ e); freed = refl; table = refl };
+          range = range;
+          steps = λ place. ap (λ (n : ℕ). stepIn place (ticked c n 0 [])) (sym m);
+          place = readTable b .clock .place;
+          read = same .0 ∙ ap (withPlace (readTable b .clock .place)) (ap readTable (sym kept));
+          sound = same .1;
+        }
+
+serve-beside : (b : List ℕ) (c : ServeCall) (lent : List ℕ) (k n : ℕ) (after left : List ℕ) → SoundBytes b → ServeInRange c
+    → Happens keepsAlways b (served c lent k n after left) → Beside b (served c lent k n after left)
+unfolding tableAfter
+serve-beside b c lent k n after left s range h = go (serveRefusal c b) refl
+  where
+    t : Table
+    t = readTable b
+
+    u : Table
+    u = tableBefore c t (doneOptions c)
+
+    at : ℕ
+    at = placeOf (c .week) (c .second)
+
+    go : (m : ℕ) → serveRefusal c b ≡ m → Beside b (served c lent k n after left)
+    go zero e =
+        let m = h .1 .number ∙ ap (λ (x : ℕ). serveWith parts x c b lent .number) e in
+        let to : after ≡ tableBytes (withPlace (moveBack setTo (t .clock) at .place) u) =
+        h .1 .table ∙ ap (λ (x : ℕ). serveWith parts x c b lent .table) e ∙ ap tableBytes (table-placed c t (doneOptions c)) in
+        let q = serve-accepted c b e in
+        let r = datagram-keeps c t (tallyOf t) range (q .reading) (q .questions) (related-read b s) (doneOptions c) (done-le c) in
+        let p = moveBack setTo (t .clock) at .place in
+        let hp = own-place (t .clock) at (placed (c .week) (c .second) (q .reading)) in
+        record {
+          other = served c lent 0 (serve c b lent .length) (serve c b lent .table) (serve c b lent .reply);
+          happens = (h .0, record { number = sym (serve-number c b lent ∙ e); length = refl; table = refl; reply = refl });
+          range = range;
+          steps = λ place. ap (λ (x : ℕ). stepIn place (served c [] x 0 [] [])) (sym m);
+          place = p;
+          read = ap readTable to ∙ read-placed p hp u (r .sound) (r .fits)
+              ∙ ap (withPlace p) (sym (ap (λ (x : _). readTable (x .table)) (serve-answered c b lent e) ∙ read-back u (tallyBefore c (tallyOf t) (doneOptions c)) r));
+          sound = subst SoundBytes (sym to) (stored-placed p hp u (r .sound) (r .fits));
+        }
+    go (suc m) e =
+        let j = h .1 .number ∙ ap (λ (x : ℕ). serveWith parts x c b lent .number) e in
+        let same = same-bytes b after s (h .1 .table ∙ ap (λ (x : ℕ). serveWith parts x c b lent .table) e) in
+        let kept : serve c b lent .table ≡ b = refusals .serveRefused c b lent (λ z. omega (arith, z, serve-number c b lent, e)) .0 in
+        record {
+          other = served c lent (suc m) (serve c b lent .length) (serve c b lent .table) (serve c b lent .reply);
+          happens = (h .0, record { number = sym (serve-number c b lent ∙ e); length = refl; table = refl; reply = refl });
+          range = range;
+          steps = λ place. ap (λ (x : ℕ). stepIn place (served c [] x 0 [] [])) (sym j);
+          place = readTable b .clock .place;
+          read = same .0 ∙ ap (withPlace (readTable b .clock .place)) (ap readTable (sym kept));
+          sound = same .1;
+        }
+
+-- a making is the model's
+beside : (b : List ℕ) (e : Event) → SoundBytes b → InRange (callOf e) → Happens keepsAlways b e → Beside b e
+beside b (made c k after) s range h =
+    record {
+      other = made c k after;
+      happens = record { number = h .number; table = h .table };
+      range = range;
+      steps = λ place. refl;
+      place = readTable after .clock .place;
+      read = refl;
+      sound = kept-stored (kept-step (sizeOf (length (readTable b .slots))) b (tallyOf (readTable b)) (made c k after) range (kept-self b s) (record { number = h .number; table = h .table }));
+    }
+beside b (ticked c k freed after) s range h = tick-beside b c k freed after s range h
+beside b (served c lent k n after left) s range h = serve-beside b c lent k n after left s range h
+
+-- so an entry grows older by one call as the model's does
+own-step : (b : List ℕ) (e : Event) (j stamp : ℕ) → SoundBytes b → Beside b e → Stamped j stamp b → Stamped j stamp (tableOf e)
+    → ageIn (tableOf e) stamp ≡ ageIn b stamp + stepIn (readTable b .clock .place) e
+own-step b e j stamp s x here there =
+    let still : Stamped j stamp (tableOf (x .other)) =
+    record { entry = there .entry; here = ap (λ (t : Table). slotOf t j) (sym (x .read)) ∙ there .here; stamped = there .stamped } in
+    ap (λ (t : Table). ageAt (t .clock .running) stamp) (x .read)
+    ∙ age-step (sizeOf (length (readTable b .slots))) b (tallyOf (readTable b)) (x .other) j stamp (x .range) (kept-self b s) (x .happens) here still
+    ∙ ap (λ (d : ℕ). ageIn b stamp + d) (x .steps (readTable b .clock .place))
+
+keeps-always-grows : Grows keepsAlways
+keeps-always-grows b [] j stamp s ranges h here all = omega arith
+keeps-always-grows b (e ∷ es) j stamp s ranges h here all =
+    let x = beside b e s (ranges .0) (h .0) in
+    keeps-always-grows (tableOf e) es j stamp (x .sound) (ranges .1) (h .1) (all .0) (all .1)
+    ∙ ap (λ (a : ℕ). a + stepsAlong (tableOf e) es) (own-step b e j stamp s x here (all .0))
+    ∙ add-assoc (ageIn b stamp) (stepIn (readTable b .clock .place) e) (stepsAlong (tableOf e) es)
+
+pub own-places : OwnPlaces
+own-places = (keeps-always-grows, since-stamped keepsAlways keeps-always-grows)
