@@ -28,7 +28,7 @@
 #include <stdint.h>
 
 /* Of the header, the archive and the host together. */
-#define LLQ_VERSION "0.3.0"
+#define LLQ_VERSION "0.4.0"
 
 #ifdef __cplusplus
 extern "C" {
@@ -75,7 +75,17 @@ struct llq_ticked {
  */
 uint32_t llq_make(uint32_t week, uint32_t second, uint8_t *table, size_t table_len, const uint8_t *roster, size_t roster_len);
 
-/* Move the table's clock to the reading and free the entries whose lease has run out. */
+/*
+ * Move the table's clock to the reading and free the entries whose lease has run out. The table keeps one reading, and a new
+ * one is a step from it, which around the 1024 weeks is less than half of them ahead or at most half back:
+ *  - ahead, or none: every entry grows older by the step, and the new reading is kept;
+ *  - back by 60 seconds or less: nothing changes, and the old reading stays;
+ *  - back by more: no entry grows older or younger, and the new reading is kept, so that leases run on from there.
+ * A step back is not undone. Readings that go back and forth by more than 60 seconds make every entry older by the way forth,
+ * each time; by 60 seconds or less, no entry grows older until a reading is past the one that was kept. One reading a year back
+ * and then the right one, or one a year ahead, ends every entry. So the host must not pass on a single wild reading. llq_serve
+ * moves the clock in the same way.
+ */
 struct llq_ticked llq_tick(uint32_t week, uint32_t second, uint8_t *table, size_t table_len);
 
 /*

@@ -49,7 +49,8 @@ int keep_start(const char *state_path, const struct table *saved, bool settled)
         return -1;
     copy(&last, saved);
     copy(&on_disk, saved);
-    unknown = again = !settled;
+    unknown = !settled;
+    again = again || unknown;
     return saver_start(path);
 }
 

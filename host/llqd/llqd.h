@@ -103,10 +103,18 @@ struct reading {
 
 /* Milliseconds since boot. */
 int64_t milliseconds(void);
-/* Whether the system's clock may be right. If not, why, in `reason`; `saved` is when the state file was written, or 0. */
-bool clock_set(time_t saved, const char *path, char *reason);
-/* Take the system's clock once. A table that is taken up was saved at `saved`; NULL without one. */
-void clock_start(const struct table *table, time_t saved);
+/* The system's clock may be right, is before the program's build date, or is well before the state file's time. */
+enum clock { CLOCK_SET, CLOCK_WRONG, CLOCK_EARLY };
+/* Which of these; if it may not be right, why, in `reason`. `saved` is when the state file was written, or 0. */
+enum clock clock_set(time_t saved, const char *path, char *reason);
+/*
+ * Take the system's clock once. A table that is taken up was saved at `saved`, NULL without one: readings go on from its place
+ * and the time that has passed since. Whether it or its file is ahead of the system's clock: it is saved at once then, so that
+ * the next start can tell how much time has passed.
+ */
+bool clock_start(const struct table *table, time_t saved);
+/* After the table's first tick: if the system's clock is more than a minute behind it, it goes back there, and readings too. */
+void clock_back(struct table *table);
 /* The reading at present, by the time since boot. */
 struct reading clock_reading(void);
 /* The reading at which a saved table stands at present, for people. */
@@ -248,7 +256,7 @@ bool keep_changed(const struct table *table);
 /* Send a reply, now or when what it tells of is on disk. */
 void keep_reply(const struct table *table, bool changed, const struct arrival *asked, const struct answers *answers,
                 const uint8_t *reply, size_t length);
-/* Save again although nothing changed. */
+/* Save again although nothing changed; before keep_start, when the loop begins. */
 void keep_again(void);
 /* Whether a save may begin: there are changes, none is under way, and the last one did not fail. */
 bool keep_due(void);

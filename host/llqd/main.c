@@ -125,20 +125,29 @@ static void wait_a_little(int signals)
     }
 }
 
-/* A system clock that cannot be right is not used: it is waited for. */
+/*
+ * A system clock that is not set is waited for. One that cannot be right is not used; one that is before the file's time may
+ * be right, if the file was saved under one that was ahead.
+ */
 static void wait_for_clock(const struct options *options, int signals)
 {
     char reason[REASON_SIZE];
     const char *path = options->settings.state_path;
     int64_t until = milliseconds() + (int64_t)options->clock_wait * 1000;
-    if (clock_set(state_time(), path, reason))
-        return;
-    say("%s; waiting up to %u s for it to be set", reason, options->clock_wait);
-    while (!clock_set(state_time(), path, reason)) {
-        if (milliseconds() >= until)
-            die("the clock was not set within %u s", options->clock_wait);
+    enum clock is = clock_set(state_time(), path, reason);
+    if (is != CLOCK_SET && options->clock_wait)
+        say("%s; waiting up to %u s for it to be set", reason, options->clock_wait);
+    while (is != CLOCK_SET && milliseconds() < until) {
         wait_a_little(signals);
+        is = clock_set(state_time(), path, reason);
     }
+    if (is == CLOCK_SET)
+        return;
+    if (options->clock_wait)
+        refuse(reason, "the clock was not set within %u s", options->clock_wait);
+    if (is == CLOCK_WRONG)
+        die("%s", reason);
+    say("%s; going on with it", reason);
 }
 
 /* ---- the table */
@@ -169,6 +178,7 @@ static void take_up(const struct options *options, const struct roster *roster, 
     size_t slots = options->slots ? options->slots : slots_of(table);
     char reason[REASON_SIZE];
     uint32_t freed = llq_tick(now.week, now.second, table->bytes, table->length).freed;
+    clock_back(table);
     counts.run_out += freed;
     if (freed)
         say("run out since the table was saved: %u", freed);
@@ -201,7 +211,8 @@ static bool start_table(const struct options *options, int signals, struct table
     bool kept = path && state_open(path, saved);
     wait_for_clock(options, signals);
     roster = start_roster(options->settings.roster_path); /* it may have changed meanwhile */
-    clock_start(kept ? saved : NULL, state_time());
+    if (clock_start(kept ? saved : NULL, state_time()))
+        keep_again();
     if (kept) {
         *table = *saved;
         take_up(options, &roster, table);

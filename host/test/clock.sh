@@ -18,6 +18,30 @@ file() { stat -c '%i %Y %s' "$table" && sha256sum <"$table"; }
 # later SECONDS: the file's time as it were had the clock been so far ahead when it was saved
 later() { touch -d "@$(($(stat -c %Y "$table") + $1))" "$table"; }
 stamp() { stat -c '%i %y' "$table"; }
+again() { [ "$(stamp)" != "$saved" ]; }
+# gps TIME: seconds of the cycle of the ten-bit week; place: where the saved table stands in it
+cycle=619315200
+gps() { echo $((($1 - 315964800 + 18) % cycle)); }
+place() { od -An --endian=big -tu4 -j1 -N4 "$table" | tr -d ' '; }
+# put PLACE TIME: another place, and the file's time
+put() {
+    printf "$(printf '%08x' $(($1 % cycle)) | sed 's/../\\x&/g')" | dd of="$table" bs=1 seek=1 conv=notrunc status=none
+    touch -d "@$2" "$table"
+}
+saved_again() { await 5 again || fail "$1: the table was not saved again"; }
+# went_back WHAT [MOVED]: it was saved again since $began, and its place is that of the clock, which is moved so far
+went_back() {
+    saved_again "$1"
+    between "$1: its place" "$(place)" "$(gps $((began + ${2:-0})))" "$(gps $((EPOCHSECONDS + 1 + ${2:-0})))"
+}
+# go_on WHAT: a setup again is told less each time
+go_on() {
+    local one=($(llq 127.0.0.2 18501 a.example 1 0 60)) two
+    sleep 1.1
+    two=($(llq 127.0.0.2 18501 a.example 1 0 60))
+    is "$1: told again" "${one[*]:0:2}, ${two[*]:0:2}" "0 $sign, 0 $sign"
+    between "$1: told less" "${two[2]}" $((one[2] - 30)) $((one[2] - 1))
+}
 # told: what is left, by a response with what a setup again was told; that is as much, or some seconds more
 told() {
     local again=$(llq 127.0.0.2 18501 a.example 1 0 60 | cut -d ' ' -f 3)
@@ -53,6 +77,8 @@ between '1970, not set: seconds' $((EPOCHSECONDS - began)) 2 8
 is '1970, not set: the file' "$(file)" "$sum"
 like '1970, a new table' "$(said --port $port --state "$work/none" --clock-wait 1)" \
     "llqd: the clock reads 1970-[^"$'\n'"]*waiting up to 1 s for it to be set"$'\nllqd: the clock was not set within 1 s\nexit 1'
+like '1970, no wait' "$(said --port $port --state "$work/none" --clock-wait 0)" \
+    "llqd: the clock reads 1970-[^"$'\n'"]*, before this program was built \($date\)"$'\nexit 1'
 is '1970: no table is made' "$(ls "$work"/none* 2>/dev/null)" ''
 
 begin --state "$table" --clock-wait 60
@@ -75,18 +101,17 @@ lives '1970, set right: shown' "$(left 18502)" 7200 $since
 
 # ---- a day ahead for two seconds while it runs
 saved=$(stamp)
-again() { [ "$(stamp)" != "$saved" ]; }
 over() { [ $EPOCHSECONDS -gt $((began + 2)) ]; }
 began=$EPOCHSECONDS
 clock +86400
 logged 'a day ahead' "llqd: the system clock was set ahead $day s; leases go by the time since boot"
-await 5 again || fail 'a day ahead: the table was not saved again'
+saved_again 'a day ahead'
 await 5 over
 lives 'a day ahead: told' "$(told)" 3600 $since
 saved=$(stamp)
 clock +0
 logged 'back again' "llqd: the system clock was set back $day s; leases go by the time since boot"
-await 5 again || fail 'back again: the table was not saved again'
+saved_again 'back again'
 is 'a day ahead and back: entries' "$(entries)" "$before"
 lives 'a day ahead and back: told' "$(told)" 3600 $since
 lives 'a day ahead and back: shown' "$(left 18502)" 7200 $since
@@ -105,7 +130,7 @@ lives 'still ahead: told' "$(told)" 3600 $since
 saved=$(stamp)
 clock +0
 logged 'set right' "llqd: the system clock was set back $day s; leases go by the time since boot"
-await 5 again || fail 'set right: the table was not saved again'
+saved_again 'set right'
 end 9
 start --state "$table"
 is 'started again by the right clock: entries' "$(entries)" "$before"
@@ -140,12 +165,19 @@ end TERM
 cp -p "$work/copy" "$table"
 clock +0
 later 660
-sum=$(file)
-begin --state "$table" --clock-wait 1
+saved=$(stamp)
+start --state "$table" --clock-wait 1
 logged '11 minutes: it waits' "llqd: the clock reads $date, more than 10 minutes before $table was saved \($date\); waiting up to 1 s for it to be set"
-finish
-is '11 minutes, not set' "$code $(tail -n 1 "$log")" '1 llqd: the clock was not set within 1 s'
-is '11 minutes, not set: the file' "$(file)" "$sum"
+logged '11 minutes, not set' 'llqd: the clock was not set within 1 s; going on with it'
+is '11 minutes, not set: entries' "$(entries)" "$before"
+between '11 minutes, not set: saved just now' "$(told)" 3570 3600
+saved_again '11 minutes, not set'
+end 9
+start --state "$table"
+is '11 minutes, not set: the next start does not wait' "$(lines 'llqd: .*clock.*')" 0
+end TERM
+cp -p "$work/copy" "$table"
+later 660
 begin --state "$table" --clock-wait 60
 logged '11 minutes again: it waits' "llqd: the clock reads .* waiting up to 60 s for it to be set"
 clock +660
@@ -155,9 +187,11 @@ end TERM
 cp -p "$work/copy" "$table"
 clock +100
 later 640
+saved=$(stamp)
 start --state "$table"
 is '9 minutes are not waited for' "$(lines 'llqd: the clock reads.*')" 0
 between '9 minutes: saved just now' "$(told)" 3590 3600
+saved_again '9 minutes'
 end TERM
 cp -p "$work/copy" "$table"
 clock +0
@@ -178,18 +212,106 @@ before=$(entries)
 clock +0
 logged 'started a day ahead: set right' "llqd: the system clock was set back $day s; leases go by the time since boot"
 end TERM
+cp -p "$table" "$work/copy"
+saved=$(stamp) began=$EPOCHSECONDS
 start --state "$table"
 logged 'behind the table' "llqd: the system clock is $day s behind the table's; leases go on from the table"
 is 'behind the table: entries' "$(entries)" "$before"
 lives 'behind the table: told' "$(told)" 3600 $since
+went_back 'behind the table'
 end TERM
+cp -p "$work/copy" "$table"
 later -100
+lives 'behind the table, by the file'\''s time: shown' "$(left 18501)" 3500 $since
+saved=$(stamp) began=$EPOCHSECONDS
 start --state "$table"
 logged 'behind the table, by the file'\''s time' 'llqd: (9[5-9]|1[0-4][0-9]) s have passed since the table was saved'
 lives 'behind the table, by the file'\''s time: told' "$(told)" 3500 $since
+went_back 'behind the table, by the file'\''s time'
 end TERM
 
+# ---- a year ahead, and killed; then by the true clock: leases go on, and a start after that finds nothing of the year
+rm "$table"
+clock +31536000
+start --state "$table"
+established 'a year ahead' 127.0.0.2 18501 a.example 3600
+sign=$number
+end 9
+later 31536000
+clock +0
+saved=$(stamp) began=$EPOCHSECONDS
+lives 'a year behind: shown' "$(left 18501)" 3600 $began
+start --state "$table" --clock-wait 0
+logged 'a year behind' "llqd: the clock reads $date, more than 10 minutes before $table was saved \($date\); going on with it"
+logged 'a year behind: the table' "llqd: the system clock is 3153(5[0-9]{3}|600[0-2]) s behind the table's; leases go on from the table"
+is 'a year behind: no other line' "$(lines 'llqd: .*(clock|passed|run out).*')" 2
+lives 'a year behind: told' "$(told)" 3600 $began
+went_back 'a year behind'
+go_on 'a year behind'
+end 9
+clock +20
+start --state "$table" --clock-wait 0
+lives 'a year behind, killed: told' "$(told)" 3580 $began
+is 'a year behind, killed: nothing is said' "$(lines 'llqd: .*(clock|passed|run out).*')" 0
+go_on 'a year behind, killed'
+end TERM
+clock +40
+under=("${moved[@]}")
+start --state "$table" --clock-wait 0 --verbose
+lives 'a year behind, ended: told' "$(told)" 3560 $began
+is 'a year behind, ended: nothing is said' "$(lines 'llqd: .*(clock|passed|run out).*')" 0
+clock +3640
+logged 'a year behind: the entry ends' 'run out: 1'
+granted 'a year behind: it has ended' 127.0.0.2 18501 a.example 60
+end TERM
+under=("${moved[@]}" FAKETIME_DONT_FAKE_MONOTONIC=1)
+
+# ---- a table just under half a cycle ahead, saved a while ago. With that while the system's clock may be more than half a cycle
+# behind, a step ahead to the library: then leases go on from the table's clock, else from the system's.
+rm "$table"
+clock +0
+start --state "$table"
+established 'half a cycle' 127.0.0.2 18501 a.example 7200
+sign=$number
+end TERM
+cp -p "$table" "$work/copy"
+for ago in 2000 5000; do
+    cp -p "$work/copy" "$table"
+    began=$EPOCHSECONDS
+    put $(($(gps $began) + cycle / 2 - 3000)) $((began - ago))
+    saved=$(stamp)
+    lives "half a cycle, $ago s ago: shown" "$(left 18501)" $((7200 - ago)) $began
+    start --state "$table"
+    logged "half a cycle, $ago s ago" "llqd: the system clock is 30965(45[0-9]{2}|4600) s behind the table's; leases go on from the table"
+    lives "half a cycle, $ago s ago: told" "$(told)" $((7200 - ago)) $began
+    saved_again "half a cycle, $ago s ago"
+    [ $ago = 5000 ] || went_back "half a cycle, $ago s ago"
+    end 9
+    clock +20
+    start --state "$table"
+    lives "half a cycle, $ago s ago, killed: told" "$(told)" $((7180 - ago)) $began
+    go_on "half a cycle, $ago s ago, killed"
+    end TERM
+    clock +0
+done
+
+# ---- a step back that is known to the second, since the clock stands still: 60 s the library does not take, 61 s it does
+still=$((EPOCHSECONDS + 86400))
+date -d "@$still" '+%F %T' >"$work/time"
+for behind in 60 61; do
+    cp -p "$work/copy" "$table"
+    put $(($(gps $still) + behind)) $still
+    saved=$(stamp) began=$EPOCHSECONDS
+    start --state "$table"
+    logged "$behind s behind" "llqd: the system clock is $behind s behind the table's; leases go on from the table"
+    [ $behind = 60 ] || went_back "$behind s behind" $((still - began))
+    lives "$behind s behind: told" "$(told)" 7200 $began
+    go_on "$behind s behind"
+    end TERM
+done
+
 # ---- 14 years ahead: more than half a cycle of the ten-bit week. Nothing can be kept, but leases must not stand still.
+cp -p "$work/copy" "$table"
 clock $((14 * 31536000))
 start --state "$table"
 is '14 years ahead: entries' "$(entries)" ''
@@ -231,6 +353,17 @@ clock $((roll + 40))
 start --state "$table"
 logged 'started again across it' "llqd: 16 slots, 1 entr(y|ies) taken up from $table"
 lives 'started again across it: told' "$(told)" 3560 $since
+end TERM
+cp -p "$work/copy" "$table"
+put 40 $((week + 40))
+roll=$(at '2038-11-20 23:57:42')
+clock $roll
+saved=$(stamp) began=$EPOCHSECONDS
+start --state "$table"
+logged 'back across it' "llqd: the system clock is 1[56][0-9] s behind the table's; leases go on from the table"
+went_back 'back across it' $roll
+lives 'back across it: told' "$(told)" 3600 $began
+go_on 'back across it'
 end TERM
 
 # ---- suspended for 75 s: the time since boot goes on with the clock, and leases with it
