@@ -16,7 +16,7 @@ use Rattle.model.specs.Table.{Slot, free, held, Table, readTable, tableBytes, s
 use Rattle.model.specs.Rules.{holdings, grantedLease, full}
 use Rattle.model.specs.Sound.{Sound, Fits, SoundBytes}
 use Rattle.model.specs.Serve.{Sender, Served, Kind, withClock, withSlot, ended, renew, retryLater, granted, freeRunOut, badVersion, badFormat, setup, response, refresh, slotOf, movedOn, freeIfRunOut, findEntry, kindOfOption, onSetup, serveSetup, onResponse, serveResponse, onRefresh, serveRefresh, serveKind, serveOption}
-use Rattle.model.specs.Calls.{TickCall, ServeCall, tickRefusal, serveRefusal, tableBefore, tableAfter, tick, serve}
+use Rattle.model.specs.Calls.{TickCall, ServeCall, Ticked, Answered, tickRefusal, serveRefusal, tableBefore, tableAfter, tick, serve}
 use Rattle.model.specs.Meets.{model}
 use Rattle.model.proofs.ListLaws.{either}
 use Rattle.model.proofs.RoundTrip.{table-back}
@@ -156,10 +156,32 @@ record Beside (b : List ℕ) (e : Event) : Type 0 where
   read : readTable (tableOf e) ≡ withPlace place (readTable (tableOf other))
   sound : SoundBytes (tableOf e)
 
--- bytes that are the same
-same-bytes : (b after : List ℕ) → SoundBytes b → after ≡ b
-    → (readTable after ≡ withPlace (readTable b .clock .place) (readTable b)) × SoundBytes after
-same-bytes b after s e = (ap readTable e, subst SoundBytes (sym e) s)
+module _ (b : List ℕ) (e other : Event) (happens : Happens model b other) (range : InRange (callOf other)) (steps : (place : ℕ) → stepIn place other ≡ stepIn place e) where
+  -- answered: it leaves the bytes of the model's table u, but for the place
+  answered : (p : ℕ) → p < cycle → (u : Table) → Sound u → Fits u → readTable (tableOf other) ≡ u → tableOf e ≡ tableBytes (withPlace p u) → Beside b e
+  answered p h u s f back left =
+      record {
+        other = other;
+        happens = happens;
+        range = range;
+        steps = steps;
+        place = p;
+        read = ap readTable left ∙ read-placed p h u s f ∙ ap (withPlace p) (sym back);
+        sound = subst SoundBytes (sym left) (stored-placed p h u s f);
+      }
+
+  -- refused: both leave the bytes as they were
+  refused : SoundBytes b → tableOf other ≡ b → tableOf e ≡ b → Beside b e
+  refused s kept left =
+      record {
+        other = other;
+        happens = happens;
+        range = range;
+        steps = steps;
+        place = readTable b .clock .place;
+        read = ap readTable (left ∙ sym kept) ∙ ap (λ (l : List ℕ). withPlace (readTable l .clock .place) (readTable (tableOf other))) kept;
+        sound = subst SoundBytes (sym left) s;
+      }
 
 tick-beside : (b : List ℕ) (c : TickCall) (k freed : ℕ) (after : List ℕ) → SoundBytes b → TickInRange c → Happens keepsAlways b (ticked c k freed after)
     → Beside b (ticked c k freed after)
@@ -171,38 +193,27 @@ tick-beside b c k freed after s range h = go (tickRefusal c b) refl
     at : ℕ
     at = placeOf (c .week) (c .second)
 
+    -- the model's tick of this number, and as many steps
+    other : ℕ → Event
+    other n = ticked c n (tick c b .freed) (tick c b .table)
+
+    happens : (n : ℕ) → tickRefusal c b ≡ n → Happens model b (other n)
+    happens n e = record { number = sym (tick-number c b ∙ e); freed = refl; table = refl }
+
+    steps : (n : ℕ) → k ≡ n → (place : ℕ) → stepIn place (other n) ≡ stepIn place (ticked c k freed after)
+    steps n m place = ap (λ (n : ℕ). stepIn place (ticked c n 0 [])) (sym m)
+
     go : (n : ℕ) → tickRefusal c b ≡ n → Beside b (ticked c k freed after)
     go zero e =
-        let m = h .number ∙ ap (λ (n : ℕ). tickWith parts n c b .number) e in
-        let left : after ≡ tableBytes (withPlace (moveBack setTo (t .clock) at .place) (movedOn t at)) =
-        h .table ∙ ap (λ (n : ℕ). tickWith parts n c b .table) e ∙ ap tableBytes (moves-placed t at) in
         let in-cycle = placed (c .week) (c .second) (tick-accepted c b e) in
         let r = move-keeps t (tallyOf t) at in-cycle (related-read b s) in
-        let p = moveBack setTo (t .clock) at .place in
-        let hp = own-place (t .clock) at in-cycle in
-        record {
-          other = ticked c 0 (tick c b .freed) (tick c b .table);
-          happens = record { number = sym (tick-number c b ∙ e); freed = refl; table = refl };
-          range = range;
-          steps = λ place. ap (λ (n : ℕ). stepIn place (ticked c n 0 [])) (sym m);
-          place = p;
-          read = ap readTable left ∙ read-placed p hp (movedOn t at) (r .sound) (r .fits)
-              ∙ ap (withPlace p) (sym (ap (λ (x : _). readTable (x .table)) (tick-answered c b e) ∙ read-back (movedOn t at) (moveTally (tallyOf t) at) r));
-          sound = subst SoundBytes (sym left) (stored-placed p hp (movedOn t at) (r .sound) (r .fits));
-        }
+        answered b (ticked c k freed after) (other 0) (happens 0 e) range (steps 0 (h .number ∙ ap (λ (n : ℕ). tickWith parts n c b .number) e))
+        (moveBack setTo (t .clock) at .place) (own-place (t .clock) at in-cycle) (movedOn t at) (r .sound) (r .fits)
+        (ap (λ (x : Ticked). readTable (x .table)) (tick-answered c b e) ∙ read-back (movedOn t at) (moveTally (tallyOf t) at) r)
+        (h .table ∙ ap (λ (n : ℕ). tickWith parts n c b .table) e ∙ ap tableBytes (moves-placed t at))
     go (suc n) e =
-        let m = h .number ∙ ap (λ (n : ℕ). tickWith parts n c b .number) e in
-        let same = same-bytes b after s (h .table ∙ ap (λ (n : ℕ). tickWith parts n c b .table) e) in
-        let kept : tick c b .table ≡ b = refusals .tickRefused c b (λ z. omega (arith, z, tick-number c b, e)) .0 in
-        record {
-          other = ticked c (suc n) (tick c b .freed) (tick c b .table);
-          happens = record { number = sym (tick-number c b ∙ e); freed = refl; table = refl };
-          range = range;
-          steps = λ place. ap (λ (n : ℕ). stepIn place (ticked c n 0 [])) (sym m);
-          place = readTable b .clock .place;
-          read = same .0 ∙ ap (withPlace (readTable b .clock .place)) (ap readTable (sym kept));
-          sound = same .1;
-        }
+        refused b (ticked c k freed after) (other (suc n)) (happens (suc n) e) range (steps (suc n) (h .number ∙ ap (λ (n : ℕ). tickWith parts n c b .number) e)) s
+        (refusals .tickRefused c b (λ z. omega (arith, z, tick-number c b, e)) .0) (h .table ∙ ap (λ (n : ℕ). tickWith parts n c b .table) e)
 
 serve-beside : (b : List ℕ) (c : ServeCall) (lent : List ℕ) (k n : ℕ) (after left : List ℕ) → SoundBytes b → ServeInRange c
     → Happens keepsAlways b (served c lent k n after left) → Beside b (served c lent k n after left)
@@ -218,38 +229,27 @@ serve-beside b c lent k n after left s range h = go (serveRefusal c b) refl
     at : ℕ
     at = placeOf (c .week) (c .second)
 
+    other : ℕ → Event
+    other m = served c lent m (serve c b lent .length) (serve c b lent .table) (serve c b lent .reply)
+
+    happens : (m : ℕ) → serveRefusal c b ≡ m → Happens model b (other m)
+    happens m e = (h .0, record { number = sym (serve-number c b lent ∙ e); length = refl; table = refl; reply = refl })
+
+    steps : (m : ℕ) → k ≡ m → (place : ℕ) → stepIn place (other m) ≡ stepIn place (served c lent k n after left)
+    steps m e place = ap (λ (x : ℕ). stepIn place (served c [] x 0 [] [])) (sym e)
+
     go : (m : ℕ) → serveRefusal c b ≡ m → Beside b (served c lent k n after left)
     go zero e =
-        let m = h .1 .number ∙ ap (λ (x : ℕ). serveWith parts x c b lent .number) e in
-        let to : after ≡ tableBytes (withPlace (moveBack setTo (t .clock) at .place) u) =
-        h .1 .table ∙ ap (λ (x : ℕ). serveWith parts x c b lent .table) e ∙ ap tableBytes (table-placed c t (doneOptions c)) in
         let q = serve-accepted c b e in
         let r = datagram-keeps c t (tallyOf t) range (q .reading) (q .questions) (related-read b s) (doneOptions c) (done-le c) in
-        let p = moveBack setTo (t .clock) at .place in
-        let hp = own-place (t .clock) at (placed (c .week) (c .second) (q .reading)) in
-        record {
-          other = served c lent 0 (serve c b lent .length) (serve c b lent .table) (serve c b lent .reply);
-          happens = (h .0, record { number = sym (serve-number c b lent ∙ e); length = refl; table = refl; reply = refl });
-          range = range;
-          steps = λ place. ap (λ (x : ℕ). stepIn place (served c [] x 0 [] [])) (sym m);
-          place = p;
-          read = ap readTable to ∙ read-placed p hp u (r .sound) (r .fits)
-              ∙ ap (withPlace p) (sym (ap (λ (x : _). readTable (x .table)) (serve-answered c b lent e) ∙ read-back u (tallyBefore c (tallyOf t) (doneOptions c)) r));
-          sound = subst SoundBytes (sym to) (stored-placed p hp u (r .sound) (r .fits));
-        }
+        answered b (served c lent k n after left) (other 0) (happens 0 e) range (steps 0 (h .1 .number ∙ ap (λ (x : ℕ). serveWith parts x c b lent .number) e))
+        (moveBack setTo (t .clock) at .place) (own-place (t .clock) at (placed (c .week) (c .second) (q .reading))) u (r .sound) (r .fits)
+        (ap (λ (x : Answered). readTable (x .table)) (serve-answered c b lent e) ∙ read-back u (tallyBefore c (tallyOf t) (doneOptions c)) r)
+        (h .1 .table ∙ ap (λ (x : ℕ). serveWith parts x c b lent .table) e ∙ ap tableBytes (table-placed c t (doneOptions c)))
     go (suc m) e =
-        let j = h .1 .number ∙ ap (λ (x : ℕ). serveWith parts x c b lent .number) e in
-        let same = same-bytes b after s (h .1 .table ∙ ap (λ (x : ℕ). serveWith parts x c b lent .table) e) in
-        let kept : serve c b lent .table ≡ b = refusals .serveRefused c b lent (λ z. omega (arith, z, serve-number c b lent, e)) .0 in
-        record {
-          other = served c lent (suc m) (serve c b lent .length) (serve c b lent .table) (serve c b lent .reply);
-          happens = (h .0, record { number = sym (serve-number c b lent ∙ e); length = refl; table = refl; reply = refl });
-          range = range;
-          steps = λ place. ap (λ (x : ℕ). stepIn place (served c [] x 0 [] [])) (sym j);
-          place = readTable b .clock .place;
-          read = same .0 ∙ ap (withPlace (readTable b .clock .place)) (ap readTable (sym kept));
-          sound = same .1;
-        }
+        refused b (served c lent k n after left) (other (suc m)) (happens (suc m) e) range
+        (steps (suc m) (h .1 .number ∙ ap (λ (x : ℕ). serveWith parts x c b lent .number) e)) s
+        (refusals .serveRefused c b lent (λ z. omega (arith, z, serve-number c b lent, e)) .0) (h .1 .table ∙ ap (λ (x : ℕ). serveWith parts x c b lent .table) e)
 
 -- a making is the model's
 beside : (b : List ℕ) (e : Event) → SoundBytes b → InRange (callOf e) → Happens keepsAlways b e → Beside b e
