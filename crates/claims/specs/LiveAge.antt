@@ -83,6 +83,7 @@ abbrev pub SameStampAlong : ℕ → Entry → List Event → Type 0
 SameStampAlong j e [] = Unit {0}
 SameStampAlong j e (x ∷ xs) = SameStamp j e (readTable (tableOf x)) × SameStampAlong j e xs
 
+-- the call is a datagram, and it was answered
 abbrev pub AnsweredDatagram : Event → Type 0
 AnsweredDatagram (made c k after) = ⊥
 AnsweredDatagram (ticked c k freed after) = ⊥

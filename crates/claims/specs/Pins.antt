@@ -15,13 +15,17 @@ use Rattle.claims.specs.CallBuilders.{makeAt, tickAt, datagramAt}
 abbrev pub zeros : ℕ → List ℕ
 zeros k = replicate k 0
 
--- W11's query: message number 0x1234, RD, one question (a., PTR, IN), OPT, one LLQ option: a setup asking 3,600 seconds
-abbrev pub setupQuery : List ℕ
-setupQuery =
+-- a setup, by the last two bytes of the lease asked: message number 0x1234, RD, one question (a., PTR, IN), OPT, one LLQ option
+abbrev pub setupOf : ℕ → ℕ → List ℕ
+setupOf high low =
     0x12 ∷ 0x34 ∷ 0x01 ∷ 0 ∷ 0 ∷ 1 ∷ 0 ∷ 0 ∷ 0 ∷ 0 ∷ 0 ∷ 1
     ∷ 1 ∷ 0x61 ∷ 0 ∷ 0 ∷ 0x0C ∷ 0 ∷ 1
     ∷ 0 ∷ 0 ∷ 0x29 ∷ 0x05 ∷ 0xC0 ∷ 0 ∷ 0 ∷ 0 ∷ 0 ∷ 0 ∷ 0x16
-    ∷ 0 ∷ 1 ∷ 0 ∷ 0x12 ∷ 0 ∷ 1 ∷ 0 ∷ 1 ∷ 0 ∷ 0 ∷ 0 ∷ 0 ∷ 0 ∷ 0 ∷ 0 ∷ 0 ∷ 0 ∷ 0 ∷ 0 ∷ 0 ∷ 0x0E ∷ 0x10 ∷ []
+    ∷ 0 ∷ 1 ∷ 0 ∷ 0x12 ∷ 0 ∷ 1 ∷ 0 ∷ 1 ∷ 0 ∷ 0 ∷ 0 ∷ 0 ∷ 0 ∷ 0 ∷ 0 ∷ 0 ∷ 0 ∷ 0 ∷ 0 ∷ 0 ∷ high ∷ low ∷ []
+
+-- W11's query: 3,600 seconds
+abbrev pub setupQuery : List ℕ
+setupQuery = setupOf 0x0E 0x10
 
 -- a challenge, by its lease's last two bytes: the query's bytes but 0x85 for the third, and number 7
 abbrev pub challengeOf : ℕ → ℕ → List ℕ
@@ -238,12 +242,7 @@ distinctPin =
 -- SET BACK BY A YEAR: made and asked, with a lease of 60 seconds, at week 100, second 100,000; ticks 40 seconds later, a year back from there, and
 -- 19 seconds and 1 second on
 abbrev pub shortSetup : ServeCall
-shortSetup =
-    datagramAt 100 100000 sender 7
-    (0x12 ∷ 0x34 ∷ 0x01 ∷ 0 ∷ 0 ∷ 1 ∷ 0 ∷ 0 ∷ 0 ∷ 0 ∷ 0 ∷ 1
-    ∷ 1 ∷ 0x61 ∷ 0 ∷ 0 ∷ 0x0C ∷ 0 ∷ 1
-    ∷ 0 ∷ 0 ∷ 0x29 ∷ 0x05 ∷ 0xC0 ∷ 0 ∷ 0 ∷ 0 ∷ 0 ∷ 0 ∷ 0x16
-    ∷ 0 ∷ 1 ∷ 0 ∷ 0x12 ∷ 0 ∷ 1 ∷ 0 ∷ 1 ∷ 0 ∷ 0 ∷ 0 ∷ 0 ∷ 0 ∷ 0 ∷ 0 ∷ 0 ∷ 0 ∷ 0 ∷ 0 ∷ 0 ∷ 0 ∷ 60 ∷ []) 60
+shortSetup = datagramAt 100 100000 sender 7 (setupOf 0 60) 60
 
 abbrev pub setBackTicks : List TickCall
 setBackTicks = tickAt 100 100040 ∷ tickAt 48 13640 ∷ tickAt 48 13659 ∷ tickAt 48 13660 ∷ []
