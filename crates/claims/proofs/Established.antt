@@ -15,7 +15,7 @@ use Rattle.model.specs.Meets.{model}
 use Rattle.model.proofs.ListLaws.{never}
 use Rattle.claims.specs.Changes.{RunOut, RightRefresh, Datagram, doneOptions}
 use Rattle.claims.specs.Established.{movedCount, ResponseTo, RefreshOf, FirstResponse, StillHeld, Pending, PendingAfter, EstablishedExactly}
-use Rattle.claims.proofs.Changes.EntryAfter.{EntryAfter, stays, confirmed, renewed, ended, clock-after, entry-after}
+use Rattle.claims.proofs.Changes.EntryAfter.{EntryAfter, stays, confirmed, renewed, ended, entry-after, clock-at}
 use Rattle.claims.proofs.Changes.{datagram-done, read-left}
 
 -- AN ENTRY PENDING BEFORE AN ANSWERED DATAGRAM, followed from option to option
@@ -25,12 +25,7 @@ module _ (c : ServeCall) (before after : List ℕ) (d : Datagram c before after)
 
   -- the running count stays from option to option
   running-at : (m : ℕ) → m ≤ doneOptions c → d .tables m .clock .running ≡ running
-  running-at zero h = ap (λ (k : Clock). k .running) (d .moved .clock)
-  running-at (suc m) h =
-      let l : m < doneOptions c = omega arith in
-      ap (λ (k : Clock). k .running)
-      (clock-after (c .sender) (question (c .datagram) m) (llqOption (c .datagram) m) (d .tables m) (d .tables (suc m)) (d .options m l .change))
-      ∙ running-at m (omega arith)
+  running-at m h = ap (λ (k : Clock). k .running) (clock-at c before after d m h)
 
   -- what option m leaves of an entry in slot j
   after-at : (m : ℕ) (x : Entry) → m < doneOptions c → slotOf (d .tables m) j ≡ held x

@@ -17,12 +17,11 @@ use Rattle.model.specs.Meets.{model}
 use Rattle.model.proofs.HoldingLaws.{not-held, held-inj}
 use Rattle.claims.specs.Changes.{RunOut, Own, renewedEntry, Change, nothing, grant, confirm, renew, end, Datagram, doneOptions}
 use Rattle.claims.specs.Others.{OfSender, HasRunOut, OnlyOwn, OthersKept, KeepsOthers}
-use Rattle.claims.proofs.Changes.EntryAfter.{slot-written, slot-other}
+use Rattle.claims.proofs.Changes.EntryAfter.{slot-written, slot-other, clock-at}
 use Rattle.claims.proofs.Changes.{datagram-done, read-left}
 
--- ONE OPTION: clock, roster and size stay, and a slot is as before, or free or the sender's before and after
+-- ONE OPTION: roster and size stay, and a slot is as before, or free or the sender's before and after
 record Step (s : Sender) (t u : Table) : Type 0 where
-  clock : u .clock ≡ t .clock
   roster : u .roster ≡ t .roster
   size : length (u .slots) ≡ length (t .slots)
   slots : (j : ℕ) → (slotOf u j ≡ slotOf t j) ⊎ (((slotOf t j ≡ free) ⊎ OfSender s (slotOf t j)) × ((slotOf u j ≡ free) ⊎ OfSender s (slotOf u j)))
@@ -36,7 +35,6 @@ written-step : (s : Sender) (t u : Table) (k : ℕ) (z : Slot) → k < length (t
     → (z ≡ free) ⊎ OfSender s z → Step s t u
 written-step s t u k z i hu was is =
     record {
-      clock = ap (λ (w : Table). w .clock) hu;
       roster = ap (λ (w : Table). w .roster) hu;
       size = ap (λ (w : Table). length (w .slots)) hu ∙ length-set (t .slots) k z;
       slots = λ j. go j (eqb j k) refl;
@@ -54,7 +52,6 @@ written-step s t u k z i hu was is =
 change-step : (s : Sender) (q : Question) (o : LlqOption) (t u : Table) → Change s q o t u → Step s t u
 change-step s q o t u (nothing hu) =
     record {
-      clock = ap (λ (w : Table). w .clock) hu;
       roster = ap (λ (w : Table). w .roster) hu;
       size = ap (λ (w : Table). length (w .slots)) hu;
       slots = λ j. inl (ap (λ (w : Table). slotOf w j) hu);
@@ -80,11 +77,11 @@ module _ (c : ServeCall) (before after : List ℕ) (d : Datagram c before after)
       → (d .tables m .clock ≡ advance (readTable before .clock) (c .week * 604800 + c .second))
       × (d .tables m .roster ≡ readTable before .roster)
       × (length (d .tables m .slots) ≡ length (readTable before .slots))
-  same-at zero h = (d .moved .clock, d .moved .roster, d .moved .size)
+  same-at zero h = (clock-at c before after d 0 h, d .moved .roster, d .moved .size)
   same-at (suc m) h =
       let x = step-at m (omega arith) in
       let y = same-at m (omega arith) in
-      (x .clock ∙ y .0, x .roster ∙ y .1, x .size ∙ y .2)
+      (clock-at c before after d (suc m) h, x .roster ∙ y .1, x .size ∙ y .2)
 
   -- one slot, at the count after the clock moved
   slot-moved : (j : ℕ) → OnlyOwn (c .sender) (d .tables 0 .clock .running) (slotOf (readTable before) j) (slotOf (d .tables 0) j)

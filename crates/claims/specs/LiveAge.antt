@@ -14,6 +14,7 @@ use Rattle.model.specs.Calls.{MakeCall}
 use Rattle.model.specs.Meets.{Server}
 use Rattle.claims.specs.Tally.{Tally, Call, making, ticking, serving, passed, judged, beginTally, tallyAfter}
 use Rattle.claims.specs.Events.{Event, made, ticked, served, callOf, tableOf, Happens, Trace, MakeInRange, AllInRange}
+use Rattle.claims.specs.Changes.{ageOf}
 
 -- BY THE PLACES THAT THE TABLE HOLDS
 
@@ -106,7 +107,7 @@ pub record Since (size : ℕ) (y : Tally) (b : List ℕ) (es : List Event) (j : 
   pub stamp : e .stamp ≡ readTable (tableOf stamping) .clock .running
   pub kept : SameStampAlong j e rest
   -- e's age at the end is what the rest added, worked out from the calls, and under its lease
-  pub age : ageIn (leftBy b es) (e .stamp) ≡ addedSince size y earlier stamping rest
+  pub age : ageOf (readTable (leftBy b es) .clock .running) e ≡ addedSince size y earlier stamping rest
   pub live : addedSince size y earlier stamping rest < e .lease
 
 -- OF ANY LIST OF CALLS on a sound table along which a slot holds an entry of one stamp: the age at the end is the age at the start and the steps

@@ -1,19 +1,23 @@
--- What a change by one option leaves of each slot; so one option of the model is done as stated. Assumes nothing.
-use Prim.Native.Nat.{ℕ, _<_}
+-- What a change by one option leaves of each slot and of the clock; so one option of the model is done as stated. Assumes nothing.
+use Prim.Native.Nat.{ℕ, zero, suc, _+_, _*_, _≤_, _<_}
+use native.Mathlib.Omega.{arith}
 use mathlib.Core.Path.{_≡_, refl, sym, ap, _∙_, subst}
 use mathlib.Core.Bool.{Bool, true, false}
+use mathlib.Core.List.{List}
 use mathlib.Core.Logic.{_≢_, _⊎_, inl, inr}
 use lib.ListN.{length}
 use lib.Seq.{getD-set-same, getD-set-other}
 use lib.Dec.{eqb}
 use borrow.Author.Tests.{eqb-true, eqb-false}
-use Rattle.model.specs.Query.{Question, LlqOption}
-use Rattle.model.specs.Table.{Entry, Slot, free, held, Table}
+use Rattle.model.specs.Clock.{advance}
+use Rattle.model.specs.Query.{Question, LlqOption, question, llqOption}
+use Rattle.model.specs.Table.{Entry, Slot, free, held, Table, readTable}
 use Rattle.model.specs.Sound.{Sound}
 use Rattle.model.specs.Serve.{Sender, serveOption, withSlot, slotOf, establish}
+use Rattle.model.specs.Calls.{ServeCall}
 use Rattle.model.proofs.ListLaws.{never}
 use Rattle.model.proofs.HoldingLaws.{not-held, held-inj}
-use Rattle.claims.specs.Changes.{RightResponse, RightRefresh, Granted, renewedEntry, Change, nothing, grant, confirm, renew, end, OptionDone}
+use Rattle.claims.specs.Changes.{RightResponse, RightRefresh, Granted, renewedEntry, Change, nothing, grant, confirm, renew, end, OptionDone, Datagram, doneOptions}
 use Rattle.claims.proofs.Changes.OptionChange.{option-change, response-establishes}
 
 -- ONE SLOT of a table where slot k is written
@@ -125,3 +129,11 @@ option-done s r q o t x =
       establishes = λ j e h b. (confirmed-right s q o t u c j e h b, response-establishes s r q o t x j e h);
       onlyHeld = only-held s q o t u c;
     }
+
+-- ALL OPTIONS of an answered datagram: the clock stays as its reading moved it
+pub clock-at : (c : ServeCall) (before after : List ℕ) (d : Datagram c before after) (m : ℕ) → m ≤ doneOptions c
+    → d .tables m .clock ≡ advance (readTable before .clock) (c .week * 604800 + c .second)
+clock-at c before after d zero h = d .moved .clock
+clock-at c before after d (suc m) h =
+    clock-after (c .sender) (question (c .datagram) m) (llqOption (c .datagram) m) (d .tables m) (d .tables (suc m)) (d .options m (omega arith) .change)
+    ∙ clock-at c before after d m (omega arith)

@@ -1,5 +1,5 @@
 -- What one call of the model leaves in a slot was there before it with that stamp, or it is a datagram that stamped it. Assumes nothing.
-use Prim.Native.Nat.{ℕ, zero, suc, _≤_}
+use Prim.Native.Nat.{ℕ, zero, suc, _+_, _*_, _≤_}
 use native.Mathlib.Omega.{arith}
 use mathlib.Core.Path.{_≡_, refl, sym, ap, _∙_, subst}
 use mathlib.Core.Bool.{Bool, true, false}
@@ -7,7 +7,7 @@ use mathlib.Core.List.{List}
 use mathlib.Core.Logic.{_⊎_, inl, inr}
 use lib.Dec.{leb}
 use borrow.Author.Tests.{leb-true, leb-false}
-use Rattle.model.specs.Clock.{Clock, ageAt}
+use Rattle.model.specs.Clock.{Clock, advance, ageAt}
 use Rattle.model.specs.Query.{Question, LlqOption, question, llqOption}
 use Rattle.model.specs.Table.{Entry, Slot, free, held, Table, readTable}
 use Rattle.model.specs.Lists.{count, any}
@@ -19,7 +19,7 @@ use Rattle.claims.specs.Tally.{Tally, making}
 use Rattle.claims.specs.Events.{Event, made, ticked, served, callOf, tableOf, Happens, MakeInRange, TickInRange, ServeInRange, InRange}
 use Rattle.claims.specs.Changes.{Moved, Change, Datagram, doneOptions}
 use Rattle.claims.specs.LiveAge.{SameStamp, AnsweredDatagram}
-use Rattle.claims.proofs.Changes.EntryAfter.{EntryAfter, stays, confirmed, renewed, ended, clock-after, entry-after, free-after}
+use Rattle.claims.proofs.Changes.EntryAfter.{EntryAfter, stays, confirmed, renewed, ended, entry-after, free-after, clock-at}
 use Rattle.claims.proofs.Changes.{datagram-done, read-left}
 use Rattle.claims.proofs.Refusals.{refusals}
 use Rattle.claims.proofs.Tick.{ticking as ticking-claim}
@@ -81,38 +81,36 @@ moved-step place t u m j x w = go (slotOf t j) refl
 
 -- ALL OPTIONS of an answered datagram, one after the other
 module _ (c : ServeCall) (before after : List ℕ) (d : Datagram c before after) where
-  same-clock : (m : ℕ) → m ≤ doneOptions c → d .tables m .clock ≡ d .tables 0 .clock
-  same-clock zero h = refl
-  same-clock (suc m) h =
-      clock-after (c .sender) (question (c .datagram) m) (llqOption (c .datagram) m) (d .tables m) (d .tables (suc m)) (d .options m (omega arith) .change)
-      ∙ same-clock m (omega arith)
+  -- the count as the reading moved it
+  abbrev running : ℕ
+  running = advance (readTable before .clock) (c .week * 604800 + c .second) .running
 
-  options-step : (m : ℕ) → m ≤ doneOptions c → (j : ℕ) (x : Entry) → slotOf (d .tables m) j ≡ held x
-      → SameStamp j x (readTable before) ⊎ (x .stamp ≡ d .tables 0 .clock .running)
+  running-at : (m : ℕ) → m ≤ doneOptions c → d .tables m .clock .running ≡ running
+  running-at m h = ap (λ (k : Clock). k .running) (clock-at c before after d m h)
+
+  options-step : (m : ℕ) → m ≤ doneOptions c → (j : ℕ) (x : Entry) → slotOf (d .tables m) j ≡ held x → SameStamp j x (readTable before) ⊎ (x .stamp ≡ running)
   options-step zero h j x w = inl (same-self j x (readTable before) (moved-step _ (readTable before) (d .tables 0) (d .moved) j x w))
   options-step (suc m) h j x w =
       go (options-step m (omega arith) j)
       (option-step (c .sender) (question (c .datagram) m) (llqOption (c .datagram) m) (d .tables m) (d .tables (suc m)) (d .options m (omega arith) .change) j x w)
     where
-      back : (k : SameStamp j x (d .tables m)) → SameStamp j (k .entry) (readTable before) ⊎ (k .entry .stamp ≡ d .tables 0 .clock .running)
-          → SameStamp j x (readTable before) ⊎ (x .stamp ≡ d .tables 0 .clock .running)
+      back : (k : SameStamp j x (d .tables m)) → SameStamp j (k .entry) (readTable before) ⊎ (k .entry .stamp ≡ running)
+          → SameStamp j x (readTable before) ⊎ (x .stamp ≡ running)
       back k (inl e) = inl (same-through j x (d .tables m) (readTable before) k e)
       back k (inr e) = inr (sym (k .stamp) ∙ e)
 
-      go : ((z : Entry) → slotOf (d .tables m) j ≡ held z → SameStamp j z (readTable before) ⊎ (z .stamp ≡ d .tables 0 .clock .running))
-          → SameStamp j x (d .tables m) ⊎ (x .stamp ≡ d .tables m .clock .running)
-          → SameStamp j x (readTable before) ⊎ (x .stamp ≡ d .tables 0 .clock .running)
+      go : ((z : Entry) → slotOf (d .tables m) j ≡ held z → SameStamp j z (readTable before) ⊎ (z .stamp ≡ running))
+          → SameStamp j x (d .tables m) ⊎ (x .stamp ≡ d .tables m .clock .running) → SameStamp j x (readTable before) ⊎ (x .stamp ≡ running)
       go earlier (inl k) = back k (earlier (k .entry) (k .here))
-      go earlier (inr e) = inr (e ∙ ap (λ (k : Clock). k .running) (same-clock m (omega arith)))
+      go earlier (inr e) = inr (e ∙ running-at m (omega arith))
 
   datagram-step : (j : ℕ) (x : Entry) → slotOf (d .tables (doneOptions c)) j ≡ held x
       → SameStamp j x (readTable before) ⊎ (x .stamp ≡ d .tables (doneOptions c) .clock .running)
   datagram-step j x w = go (options-step (doneOptions c) (omega arith) j x w)
     where
-      go : SameStamp j x (readTable before) ⊎ (x .stamp ≡ d .tables 0 .clock .running)
-          → SameStamp j x (readTable before) ⊎ (x .stamp ≡ d .tables (doneOptions c) .clock .running)
+      go : SameStamp j x (readTable before) ⊎ (x .stamp ≡ running) → SameStamp j x (readTable before) ⊎ (x .stamp ≡ d .tables (doneOptions c) .clock .running)
       go (inl k) = inl k
-      go (inr e) = inr (e ∙ ap (λ (k : Clock). k .running) (sym (same-clock (doneOptions c) (omega arith))))
+      go (inr e) = inr (e ∙ sym (running-at (doneOptions c) (omega arith)))
 
 -- ONE CALL: what is in slot j after it was there with this stamp, or the call is a datagram that stamped it with the count that it left
 abbrev StampStep : List ℕ → Event → ℕ → Entry → Type 0
