@@ -42,10 +42,14 @@ abbrev sentOption : ℕ → ℕ → ℕ → ℕ → List ℕ
 sentOption version opcode number lease =
     0 ∷ 1 ∷ 0 ∷ 18 ∷ 0 ∷ version ∷ 0 ∷ opcode ∷ 0 ∷ 0 ∷ 0 ∷ 0 ∷ 0 ∷ 0 ∷ 0 ∷ 0 ∷ 0 ∷ number ∷ 0 ∷ 0 ∷ lease / 256 ∷ lease % 256 ∷ []
 
--- one question, a., type PTR, class IN, with one option of version 1 and opcode 1: number 0 is a setup, another a response
+-- one question, a name of one byte, type PTR, class IN, with one option of version 1 and opcode 1: number 0 is a setup, another a response
+abbrev pub askingByte : ℕ → ℕ → ℕ → List ℕ
+askingByte byte number lease =
+    0 ∷ 1 ∷ 0 ∷ 0 ∷ 0 ∷ 1 ∷ 0 ∷ 0 ∷ 0 ∷ 0 ∷ 0 ∷ 1 ∷ 1 ∷ byte ∷ 0 ∷ 0 ∷ 12 ∷ 0 ∷ 1 ∷ 0 ∷ 0 ∷ 41 ∷ 5 ∷ 192 ∷ 0 ∷ 0 ∷ 0 ∷ 0 ∷ 0 ∷ 22 ∷ sentOption 1 1 number lease
+
+-- the same for a.
 abbrev pub asking : ℕ → ℕ → List ℕ
-asking number lease =
-    0 ∷ 1 ∷ 0 ∷ 0 ∷ 0 ∷ 1 ∷ 0 ∷ 0 ∷ 0 ∷ 0 ∷ 0 ∷ 1 ∷ 1 ∷ 97 ∷ 0 ∷ 0 ∷ 12 ∷ 0 ∷ 1 ∷ 0 ∷ 0 ∷ 41 ∷ 5 ∷ 192 ∷ 0 ∷ 0 ∷ 0 ∷ 0 ∷ 0 ∷ 22 ∷ sentOption 1 1 number lease
+asking number lease = askingByte 97 number lease
 
 -- two questions: a setup, and an option of version 2
 abbrev pub askingTwo : List ℕ

@@ -5,19 +5,22 @@ use mathlib.Core.Path.{_≡_, refl, sym, ap, _∙_, fun-ext, subst}
 use mathlib.Core.Bool.{Bool, true, false, cond}
 use mathlib.Core.List.{List, [], _∷_, _++_, map}
 use mathlib.Core.Logic.{inl, inr, ⊎-elim}
-use lib.ListN.{length, drop, length-append}
+use lib.ListN.{length, getD, drop, length-append}
 use lib.IntN.{ℤ, pos, negsuc}
 use lib.Dec.{eqb, leb, lit<}
-use Rattle.model.specs.Lists.{any, every, upTo, count}
+use Rattle.model.specs.Lists.{any, every, upTo, count, same}
+use Rattle.model.specs.Numbers.{Bytes, part}
+use Rattle.model.specs.Names.{fold}
 use Rattle.model.specs.Clock.{Clock, slack, moved}
-use Rattle.model.specs.Query.{Question, LlqOption, question, llqOption, qdcount, matched}
+use Rattle.model.specs.Query.{Question, LlqOption, nameAt, questionAt, questionStart, question, llqOption, qdcount, matched}
 use Rattle.model.specs.Table.{Entry, Slot, free, held, Table, tableBytes, readTable}
 use Rattle.model.specs.Rules.{Holding, holdings}
 use Rattle.model.specs.Serve.{Sender, Kind, badVersion, badFormat, setup, response, refresh, findEntry, slotOf, establish, answers, onSetup, onResponse, serveResponse, serveKind, serveOption}
 use Rattle.model.specs.Reply.{replyBytes, replyLength, mismatch}
 use Rattle.model.specs.Calls.{TickCall, ServeCall, servedBy, serveRefusal, tableBefore, outcomeOf, tableAfter, outcomes, serve}
 use Rattle.model.proofs.Meaning.{read-stored}
-use Rattle.model.proofs.ListLaws.{never}
+use Rattle.model.proofs.ListLaws.{never, getD-upTo}
+use Rattle.model.proofs.NumberLaws.{bytes-part}
 use Rattle.model.proofs.HoldingLaws.{not-held}
 use Rattle.model.specs.Meets.{Server}
 use Rattle.claims.specs.Tally.{Tally, Call, ticking, serving, beginTally, tallyAfter}
@@ -30,12 +33,12 @@ use Rattle.claims.specs.Reply.{ReplyClaim}
 use Rattle.claims.specs.LiveAge.{AnsweredDatagram, addedAlong, tallyAlong, Summed}
 use Rattle.claims.specs.Repeats.{ToldLeases}
 use Rattle.claims.specs.Resumes.{Resumes}
-use Rattle.claims.specs.Samples.{ClockSamples}
+use Rattle.claims.specs.Samples.{ClockSamples, NameSamples}
 use Rattle.claims.specs.CallBuilders.{makeAt, tickAt}
-use Rattle.claims.specs.Impostors.{right, serverOf, serveWith, tableWith, byKind, onFound, refusesAll, constantReply, saysFull, leavesTable, copiesFirst, inventsFreed, grantsUnstored, comparesSum, dropsPending, grantsIfFree, countsByPort, findsByNumber, repeatsGranted, restampsOnRepeat, grantedOnly, anyUpToGranted, openBelow, sentLessAge, onBack, moveBack, stands, setTo, freezes, keepsAlways, waitsFor61, countsBack, endsOnSetBack, Refuted}
+use Rattle.claims.specs.Impostors.{right, serverOf, serveWith, tableWith, byKind, onFound, refusesAll, constantReply, saysFull, leavesTable, copiesFirst, inventsFreed, grantsUnstored, comparesSum, dropsPending, grantsIfFree, countsByPort, findsByNumber, repeatsGranted, restampsOnRepeat, grantedOnly, anyUpToGranted, openBelow, sentLessAge, onBack, moveBack, stands, setTo, freezes, keepsAlways, waitsFor61, countsBack, endsOnSetBack, foldEntries, readThrough, readUnfoldedZ, zUnfolded, readFoldedBracket, bracketFolded, readFoldedLatin, latinFolded, Refuted}
 use Rattle.claims.proofs.Demand3.Permutations.{perm-alike}
 use Rattle.claims.proofs.Definitions.{all-definitions}
-use Rattle.claims.proofs.CallBuilders.{areBytes, bytes-by-test, sound-by-test, asking, askingTwo, rosterOf, fromAt, from, make-in-range, tick-at-in-range, tick-in-range, from-at-in-range, from-in-range, tableBuffer, replyBuffer, freshBytes, along-calls, since-stamp}
+use Rattle.claims.proofs.CallBuilders.{areBytes, bytes-by-test, sound-by-test, askingByte, asking, askingTwo, rosterOf, fromAt, from, make-in-range, tick-at-in-range, tick-in-range, from-at-in-range, from-in-range, tableBuffer, replyBuffer, freshBytes, along-calls, since-stamp}
 use Rattle.claims.proofs.LiveAge.SlotSteps.{same-self}
 
 -- of the entries that agree with a tally as many pass a test
@@ -416,7 +419,50 @@ keeps-sample : ClockSamples (moveBack setTo) → ⊥
 unfolding all-definitions
 keeps-sample r = let z : _≡_ {A = ℕ} 999 1000 = ap (λ (c : Clock). c .place) (r .1 .0) in absurd (omega arith)
 
--- ---- ALL TWENTY-THREE
+-- ---- THE FOLD
+
+-- a setup for a name of one byte
+abbrev askingOf : ℕ → ServeCall
+askingOf byte = from 9 1 (askingByte byte 0 3600)
+
+-- of the entries that it leaves as many have a name as of the tally's
+names-after : (s : Server) → Demand3 s → (byte : ℕ) → areBytes (askingByte byte 0 3600) → 0 ≡ s .make (makeAt 0 0 []) (tableBuffer 1) .number
+    → (name : List ℕ)
+    → count (holdings (readTable (s .serve (askingOf byte) (freshBytes s 1 []) (replyBuffer (askingOf byte)) .table))) (λ h. same (h .name) name)
+    ≡ count (tallyAfter (length (tableBuffer 1)) (beginTally (length (tableBuffer 1)) (makeAt 0 0 [])) (serving (askingOf byte)) .holdings) (λ h. same (h .name) name)
+unfolding every
+names-after s d byte bytes made name =
+    as-many-by (λ h. same (h .name) name) _ _
+    (along-calls s 1 [] d refl made (serving (askingOf byte) ∷ []) (from-in-range 9 1 (askingByte byte 0 3600) (lit< tt) (lit< tt) bytes, tt) .0 .agrees)
+
+-- the tally has z for Z
+z-unfolded : Demand3 zUnfolded → ⊥
+unfolding all-definitions
+z-unfolded d = let z : _≡_ {A = ℕ} 0 1 = names-after zUnfolded d 90 refl refl (1 ∷ 122 ∷ 0 ∷ []) in absurd (omega arith)
+
+-- and these two as they were sent
+bracket-folded : Demand3 bracketFolded → ⊥
+unfolding all-definitions
+bracket-folded d = let z : _≡_ {A = ℕ} 0 1 = names-after bracketFolded d 91 refl refl (1 ∷ 91 ∷ 0 ∷ []) in absurd (omega arith)
+
+latin-folded : Demand3 latinFolded → ⊥
+unfolding all-definitions
+latin-folded d = let z : _≡_ {A = ℕ} 0 1 = names-after latinFolded d 0xC1 refl refl (1 ∷ 0xC1 ∷ 0 ∷ []) in absurd (omega arith)
+
+-- the samples of z against Z, of @az[ against @AZ[, and of 0xE1 against 0xC1
+z-sample : NameSamples readUnfoldedZ → ⊥
+unfolding all-definitions
+z-sample r = never {b = true} refl (sym (r .2 .2 .2 .2 .0))
+
+bracket-sample : NameSamples readFoldedBracket → ⊥
+unfolding all-definitions
+bracket-sample r = never {b = true} refl (sym (r .0))
+
+latin-sample : NameSamples readFoldedLatin → ⊥
+unfolding all-definitions
+latin-sample r = never {b = true} refl (r .2 .2 .0)
+
+-- ---- ALL TWENTY-SIX
 
 pub refuted : Refuted
 refuted =
@@ -444,8 +490,12 @@ refuted =
       waitsFor61 = waits-for-61;
       countsBack = (counts-back, counts-back-told);
       endsOnSetBack = ends-on-set-back;
+      zUnfolded = z-unfolded;
+      bracketFolded = bracket-folded;
+      latinFolded = latin-folded;
       resumes = (stands-still, keeps-little);
       clockSamples = (stands-sample, keeps-sample);
+      nameSamples = (z-sample, bracket-sample, latin-sample);
     }
 
 -- ---- THE WRONG SERVERS' COMMON PARTS ARE THE MODEL'S
@@ -475,10 +525,23 @@ serve-by zero c b given =
     (fun-ext (λ (i : ℕ). table-right c (readTable b) i))
 serve-by (suc k) c b given = refl
 
--- with the model's move and the model's option, serving is the model's
+-- with the model's move, the model's reader and the model's option, serving is the model's
 pub serve-right : (c : ServeCall) (b given : List ℕ) → serverOf right .serve c b given ≡ serve c b given
 unfolding serve
 serve-right c b given = serve-by (serveRefusal c b) c b given
+
+-- through the table that the rule gives, a question is read as the model's
+through : (s : List ℕ) → Bytes s → map (λ b. getD foldEntries b 0) s ≡ map fold s
+through [] h = refl
+through (x ∷ s) h =
+    ap (λ (y : ℕ). y ∷ map (λ b. getD foldEntries b 0) s) (getD-upTo 256 fold x 0 (h 0)) ∙ ap (λ (l : List ℕ). fold x ∷ l) (through s (λ i. h (suc i)))
+
+pub through-right : (d : List ℕ) (i : ℕ) → Bytes d → readThrough foldEntries d i ≡ question d i
+unfolding questionAt
+through-right d i h =
+    let at = questionStart d i in
+    ap (λ (l : List ℕ). record { name = l; qtype = question d i .qtype; qclass = question d i .qclass })
+    (through (part at (nameAt d at) d) (bytes-part at (nameAt d at) d h))
 
 -- with the model's rule for a step back, the clock moves as the model's
 pub back-right : (c : Clock) (to : ℕ) (z : ℤ) → onBack (λ c to k. cond (leb k slack) (stands c to k) (setTo c to k)) c to z ≡ moved c to z

@@ -127,7 +127,7 @@ own-place c to h = go (step (c .place) to)
     go (negsuc n) = h
 
 abbrev parts : Parts
-parts = record { moves = λ t place. freeRunOut (withClock t (moveBack setTo (t .clock) place)); option = serveOption }
+parts = record { moves = λ t place. freeRunOut (withClock t (moveBack setTo (t .clock) place)); reads = question; option = serveOption }
 
 moves-placed : (t : Table) (to : ℕ) → parts .moves t to ≡ withPlace (moveBack setTo (t .clock) to .place) (movedOn t to)
 unfolding movedOn

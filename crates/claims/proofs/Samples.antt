@@ -1,8 +1,9 @@
 -- The samples and the pins hold of the model, by computing. Assumes nothing.
 use mathlib.Core.Path.{refl}
 use Rattle.model.specs.Clock.{advance}
+use Rattle.model.specs.Query.{question}
 use Rattle.model.specs.Meets.{model}
-use Rattle.claims.specs.Samples.{Samples, byTally, ClockSamples, SpanSamples}
+use Rattle.claims.specs.Samples.{Samples, byTally, ClockSamples, SpanSamples, NameSamples}
 use Rattle.claims.specs.SoundSamples.{SoundSamples}
 use Rattle.claims.specs.Pins.{Pinned}
 use Rattle.claims.proofs.Definitions.{model-definitions, all-definitions}
@@ -22,6 +23,11 @@ pub span-samples-hold : SpanSamples
 unfolding model-definitions
 span-samples-hold =
     ((λ e. (refl, refl)), ((λ e. (refl, refl)), ((λ e. (refl, refl)), ((λ e. (refl, refl)), ((λ e. (refl, refl)), ((λ e. (refl, refl)), ((λ e. (refl, refl)), ((λ e. (refl, refl)), ((λ e. (refl, refl)), ((λ e. (refl, refl)), ((λ e. (refl, refl)), ((λ e. (refl, refl)), ((λ e. (refl, refl)), tt)))))))))))))
+
+pub name-samples-hold : NameSamples question
+unfolding model-definitions
+name-samples-hold =
+    (refl, refl, (refl, refl, (refl, refl, (refl, refl, (refl, refl, (refl, refl, (refl, refl, tt)))))))
 
 pub sound-samples-hold : SoundSamples
 unfolding model-definitions

@@ -1,14 +1,17 @@
 -- Wrong servers: document 01's impostors, the old box's five faults, six that tell or take a lease wrongly, four that move the clock wrongly when
--- it goes back, and one that then frees every entry; each the model with one part wrong, and the claim that each breaks. Assumes nothing.
+-- it goes back, one that then frees every entry, and three that fold names through a wrong table; each the model with one part wrong, and the
+-- claim that each breaks. Assumes nothing.
 use Prim.Native.Nat.{ℕ, zero, suc, _+_, _-_, _%_, _^_}
 use mathlib.Core.Bool.{Bool, not, cond, _&&_, _||_}
 use mathlib.Core.List.{List, [], _∷_, _++_, map}
-use lib.ListN.{length, drop}
+use lib.ListN.{length, getD, set, drop}
 use lib.IntN.{ℤ, pos, negsuc}
 use lib.Dec.{eqb, leb, ltb}
 use Rattle.model.specs.Lists.{count, any, upTo}
+use Rattle.model.specs.Numbers.{part}
+use Rattle.model.specs.Names.{fold}
 use Rattle.model.specs.Clock.{Clock, step, slack, moved, advance, placeOf, ageAt}
-use Rattle.model.specs.Query.{Question, LlqOption, question, llqOption, qdcount, matched}
+use Rattle.model.specs.Query.{Question, LlqOption, nameAt, questionStart, question, llqOption, qdcount, matched}
 use Rattle.model.specs.Table.{Entry, Slot, free, held, Table, tableBytes, readTable}
 use Rattle.model.specs.Rules.{Holding, holdings, asks, numbered, limitOf, shareOf, reserve}
 use Rattle.model.specs.Serve.{Sender, Outcome, Served, Kind, badVersion, badFormat, setup, response, refresh, isFree, findEntry, slotOf, withClock, withSlot, freeRunOut, movedOn, kindOfOption, serveOption, serveKind, onSetup, onResponse, lifeLeft, rightLease, answers, challenge, retryLater, granted, establish}
@@ -24,7 +27,7 @@ use Rattle.claims.specs.Reply.{ReplyClaim}
 use Rattle.claims.specs.LiveAge.{Grows, SinceStamp, Summed}
 use Rattle.claims.specs.Repeats.{ToldLeases}
 use Rattle.claims.specs.Resumes.{Resumes}
-use Rattle.claims.specs.Samples.{ClockSamples}
+use Rattle.claims.specs.Samples.{ClockSamples, NameSamples}
 
 -- A SERVER WITH ONE CALL OF ITS OWN, the others those of the server given: a further call is one line in each
 abbrev pub withMake : Server → (MakeCall → List ℕ → Made) → Server
@@ -50,22 +53,23 @@ withReply a reply = record { number = a .number; length = a .length; table = a .
 abbrev pub Does : Type 0
 Does = Sender → ℕ → Question → LlqOption → Table → Served
 
--- A SERVER FROM ITS PARTS: how a call moves the table on, and what one option does
+-- A SERVER FROM ITS PARTS: how a call moves the table on, how question i of a datagram is read, and what one option does
 pub record Parts : Type 0 where
   pub moves : Table → ℕ → Table
+  pub reads : List ℕ → ℕ → Question
   pub option : Does
 
 -- the model's parts
 abbrev pub right : Parts
-right = record { moves = movedOn; option = serveOption }
+right = record { moves = movedOn; reads = question; option = serveOption }
 
 module _ (p : Parts) where
   unfoldable pub tableWith : ServeCall → Table → ℕ → Table
   tableWith c t zero = p .moves t (placeOf (c .week) (c .second))
-  tableWith c t (suc i) = p .option (c .sender) (c .random) (question (c .datagram) i) (llqOption (c .datagram) i) (tableWith c t i) .table
+  tableWith c t (suc i) = p .option (c .sender) (c .random) (p .reads (c .datagram) i) (llqOption (c .datagram) i) (tableWith c t i) .table
 
   abbrev pub outcomeWith : ServeCall → Table → ℕ → Outcome
-  outcomeWith c t i = p .option (c .sender) (c .random) (question (c .datagram) i) (llqOption (c .datagram) i) (tableWith c t i) .outcome
+  outcomeWith c t i = p .option (c .sender) (c .random) (p .reads (c .datagram) i) (llqOption (c .datagram) i) (tableWith c t i) .outcome
 
   abbrev pub tableAfterWith : ServeCall → Table → Table
   tableAfterWith c t = tableWith c t (cond (matched (c .datagram)) (qdcount (c .datagram)) 0)
@@ -93,10 +97,13 @@ module _ (p : Parts) where
   serverOf = withServe (withTick model (λ c b. tickWith (tickRefusal c b) c b)) (λ c b lent. serveWith (serveRefusal c b) c b lent)
 
 abbrev pub withOption : Does → Server
-withOption f = serverOf (record { moves = movedOn; option = f })
+withOption f = serverOf (record { moves = movedOn; reads = question; option = f })
 
 abbrev pub withMove : (Table → ℕ → Table) → Server
-withMove f = serverOf (record { moves = f; option = serveOption })
+withMove f = serverOf (record { moves = f; reads = question; option = serveOption })
+
+abbrev pub withReader : (List ℕ → ℕ → Question) → Server
+withReader f = serverOf (record { moves = movedOn; reads = f; option = serveOption })
 
 -- DOCUMENT 01'S IMPOSTORS
 
@@ -318,6 +325,39 @@ endsOnSetBack = withMove (λ t place. freedOnBack t place (step (t .clock .place
 abbrev pub OwnPlaces : Type 0
 OwnPlaces = Grows keepsAlways × SinceStamp keepsAlways
 
+-- THE FOLD
+
+-- the table of 256 entries that the rule gives
+abbrev pub foldEntries : List ℕ
+foldEntries = upTo 256 fold
+
+-- question i with its name read through a table
+abbrev pub readThrough : List ℕ → List ℕ → ℕ → Question
+readThrough table d i =
+    let at = questionStart d i in
+    record { name = map (λ b. getD table b 0) (part at (nameAt d at) d); qtype = question d i .qtype; qclass = question d i .qclass }
+
+-- Z stays Z
+abbrev pub readUnfoldedZ : List ℕ → ℕ → Question
+readUnfoldedZ = readThrough (set foldEntries 90 90)
+
+abbrev pub zUnfolded : Server
+zUnfolded = withReader readUnfoldedZ
+
+-- [, behind Z, becomes {
+abbrev pub readFoldedBracket : List ℕ → ℕ → Question
+readFoldedBracket = readThrough (set foldEntries 91 123)
+
+abbrev pub bracketFolded : Server
+bracketFolded = withReader readFoldedBracket
+
+-- 0xC1, a letter of Latin-1, becomes 0xE1
+abbrev pub readFoldedLatin : List ℕ → ℕ → Question
+readFoldedLatin = readThrough (set foldEntries 0xC1 0xE1)
+
+abbrev pub latinFolded : Server
+latinFolded = withReader readFoldedLatin
+
 -- EACH BREAKS A CLAIM
 pub record Refuted : Type 0 where
   pub refusesAll : Refusals refusesAll → ⊥
@@ -343,6 +383,11 @@ pub record Refuted : Type 0 where
   pub waitsFor61 : Demand3 waitsFor61 → ⊥
   pub countsBack : (Ticking countsBack → ⊥) × (ToldLeases countsBack → ⊥)
   pub endsOnSetBack : Ticking endsOnSetBack → ⊥
+  pub zUnfolded : Demand3 zUnfolded → ⊥
+  pub bracketFolded : Demand3 bracketFolded → ⊥
+  pub latinFolded : Demand3 latinFolded → ⊥
   -- the claims of the clock alone, by the clocks of `freezes` and `keepsAlways`
   pub resumes : (Resumes (moveBack stands) → ⊥) × (Resumes (moveBack setTo) → ⊥)
   pub clockSamples : (ClockSamples (moveBack stands) → ⊥) × (ClockSamples (moveBack setTo) → ⊥)
+  -- the claim of the reader alone, by the readers of the three
+  pub nameSamples : (NameSamples readUnfoldedZ → ⊥) × (NameSamples readFoldedBracket → ⊥) × (NameSamples readFoldedLatin → ⊥)

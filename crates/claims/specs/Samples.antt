@@ -1,17 +1,18 @@
 -- Claim 6: document 01's samples W1 to W10, and two steps beside them, one table under one statement, of the definitions that contracts and
--- claims cite; and samples of the clock moved and of a response's span, one table each under one statement. Assumes nothing.
-use Prim.Native.Nat.{ℕ, _^_}
+-- claims cite; and samples of the clock moved, of a response's span and of names compared, one table each under one statement. Assumes nothing.
+use Prim.Native.Nat.{ℕ, _+_, _%_, _^_}
 use mathlib.Core.Path.{_≡_}
 use mathlib.Core.Bool.{Bool, true, false}
-use mathlib.Core.List.{List, [], _∷_}
+use mathlib.Core.List.{List, [], _∷_, _++_}
+use lib.ListN.{length, replicate}
 use lib.IntN.{ℤ, pos, negsuc}
-use Rattle.model.specs.Lists.{bit, count}
+use Rattle.model.specs.Lists.{bit, count, upTo}
 use Rattle.model.specs.Clock.{Clock, step, ageAt, runOut}
 use Rattle.model.specs.Query.{Question, LlqOption}
 use Rattle.model.specs.Table.{Entry, free, held, Table}
-use Rattle.model.specs.Rules.{Holding, entriesOf, grantedLease, freshNumber}
+use Rattle.model.specs.Rules.{Holding, entriesOf, asks, grantedLease, freshNumber}
 use Rattle.model.specs.Serve.{Sender, Served, isFree, answers, serveOption}
-use Rattle.claims.specs.Tally.{moveTally, isAnswered}
+use Rattle.claims.specs.Tally.{moveTally, isOf, isAnswered}
 
 -- an established entry with this number
 abbrev pub entryNumbered : ℕ → Entry
@@ -107,6 +108,14 @@ byTally c to =
 abbrev pub ClockSamples : (Clock → ℕ → Clock) → Type 0
 ClockSamples move = ClocksAgree move clockSamples
 
+-- a sender, and an entry of it with a name, pending or established
+abbrev pub sampleSender : Sender
+sampleSender = record { address = 9; port = 5353 }
+
+abbrev pub sampleHolding : Bool → ℕ → ℕ → List ℕ → Holding
+sampleHolding established granted age name =
+    record { established = established; address = 9; port = 5353; number = 7; lease = granted; age = age; qtype = 12; qclass = 1; name = name }
+
 -- THE SPAN: granted lease, age and lease sent, and whether a response with it is right
 pub record SpanSample : Type 0 where
   pub granted : ℕ
@@ -134,9 +143,6 @@ spanSamples =
     ∷ span 60 0 4294967295 false  -- 2^32 − 1
     ∷ []
 
-abbrev pub spanSender : Sender
-spanSender = record { address = 9; port = 5353 }
-
 abbrev pub spanQuestion : Question
 spanQuestion = record { name = 1 ∷ 97 ∷ 0 ∷ []; qtype = 12; qclass = 1 }
 
@@ -146,17 +152,60 @@ spanResponse sent = record { version = 1; opcode = 1; error = 0; number = 7; lea
 
 -- the holding that it names, pending or established
 abbrev pub spanHolding : Bool → ℕ → ℕ → Holding
-spanHolding established granted age =
-    record { established = established; address = 9; port = 5353; number = 7; lease = granted; age = age; qtype = 12; qclass = 1; name = 1 ∷ 97 ∷ 0 ∷ [] }
+spanHolding established granted age = sampleHolding established granted age (1 ∷ 97 ∷ 0 ∷ [])
 
 -- each is right or not by the rule that the contracts cite, and by the tally's
 abbrev pub SpansAgree : List SpanSample → Type 0
 SpansAgree [] = Unit {0}
 SpansAgree (x ∷ xs) =
     ((established : Bool)
-    → (answers spanSender spanQuestion (spanResponse (x .sent)) (spanHolding established (x .granted) (x .age)) ≡ x .right)
-    × (isAnswered spanSender spanQuestion (spanResponse (x .sent)) (spanHolding established (x .granted) (x .age)) ≡ x .right))
+    → (answers sampleSender spanQuestion (spanResponse (x .sent)) (spanHolding established (x .granted) (x .age)) ≡ x .right)
+    × (isAnswered sampleSender spanQuestion (spanResponse (x .sent)) (spanHolding established (x .granted) (x .age)) ≡ x .right))
     × SpansAgree xs
 
 abbrev pub SpanSamples : Type 0
 SpanSamples = SpansAgree spanSamples
+
+-- NAMES: a stored one, a sent one, and whether they are the same
+pub record NameSample : Type 0 where
+  pub stored : List ℕ
+  pub sent : List ℕ
+  pub same : Bool
+
+abbrev pub against : List ℕ → List ℕ → Bool → NameSample
+against stored sent same = record { stored = stored; sent = sent; same = same }
+
+-- the wire name of one label
+abbrev pub oneLabel : List ℕ → List ℕ
+oneLabel s = length s ∷ (s ++ (0 ∷ []))
+
+-- 63 letters, as many as a label may have, from a first one on through the alphabet
+abbrev pub letters : ℕ → List ℕ
+letters first = oneLabel (upTo 63 (λ i. first + i % 26))
+
+abbrev pub nameSamples : List NameSample
+nameSamples =
+    against (oneLabel (0x40 ∷ 97 ∷ 122 ∷ 0x5B ∷ [])) (oneLabel (0x40 ∷ 65 ∷ 90 ∷ 0x5B ∷ [])) true  -- @az[ against @AZ[
+    ∷ against (oneLabel (0x40 ∷ 97 ∷ 122 ∷ 0x5B ∷ [])) (oneLabel (0x60 ∷ 65 ∷ 90 ∷ 0x7B ∷ [])) false  -- and against `AZ{
+    ∷ against (oneLabel (0xE1 ∷ [])) (oneLabel (0xC1 ∷ [])) false  -- over 127 no two agree
+    ∷ against (oneLabel (0xC1 ∷ [])) (oneLabel (0xE1 ∷ [])) false
+    ∷ against (oneLabel (0x7A ∷ [])) (oneLabel (0x5A ∷ [])) true  -- z against Z
+    ∷ against (0 ∷ []) (0 ∷ []) true  -- the root
+    ∷ against (letters 97) (letters 65) true  -- every letter, in a label of 63
+    ∷ []
+
+-- the datagram that asks for a name: a header of which nothing is read here, the name, type PTR, class IN
+abbrev pub queryFor : List ℕ → List ℕ
+queryFor sent = replicate 12 0 ++ sent ++ (0 ∷ 12 ∷ 0 ∷ 1 ∷ [])
+
+-- the question read is that of the holding or not, by the rule that the contracts cite and by the tally's
+abbrev pub NamesAgree : (List ℕ → ℕ → Question) → List NameSample → Type 0
+NamesAgree reads [] = Unit {0}
+NamesAgree reads (x ∷ xs) =
+    (asks (sampleSender .address) (sampleSender .port) (reads (queryFor (x .sent)) 0) (sampleHolding true 3600 0 (x .stored)) ≡ x .same)
+    × (isOf sampleSender (reads (queryFor (x .sent)) 0) (sampleHolding true 3600 0 (x .stored)) ≡ x .same)
+    × NamesAgree reads xs
+
+-- of any way to read question i of a datagram; it holds of the reader that the contracts cite
+abbrev pub NameSamples : (List ℕ → ℕ → Question) → Type 0
+NameSamples reads = NamesAgree reads nameSamples

@@ -3,19 +3,19 @@ use Prim.Native.Nat.{ℕ, zero, suc, _+_, _-_, _≤_, _<_}
 use native.Mathlib.Nat.{zero-add, add-zero}
 use native.Mathlib.Omega.{arith}
 use mathlib.Core.Path.{_≡_, refl, sym, ap, _∙_}
-use mathlib.Core.Bool.{Bool, not, _&&_, and-true, Bool·not-not}
+use mathlib.Core.Bool.{Bool, true, false, _&&_, and-true, and-false}
 use mathlib.Core.List.{List, [], _∷_, map}
+use mathlib.Core.Logic.{_≢_}
 use lib.ListN.{length, getD, take, drop, set}
-use lib.Bits.{bitOr}
 use lib.Dec.{eqb}
 use lib.Seq.{drop-cons}
-use Rattle.model.specs.Lists.{bit, same}
+use borrow.Author.Tests.{eq-eqb, ne-eqb}
+use Rattle.model.specs.Lists.{same}
 use Rattle.model.specs.Numbers.{part, splice}
 use Rattle.model.specs.Names.{fold}
-use Rattle.model.proofs.ListLaws.{length-map, getD-map}
+use Rattle.model.proofs.ListLaws.{and-both, length-map, getD-map}
 use Rattle.model.proofs.NumberLaws.{copy-step}
 use Rattle.octets.proofs.Laws.{both}
-use Rattle.octets.proofs.Cover.{bit-none, or-next, cover}
 
 module _ (f : ℕ → ℕ) where
   map-take : (k : ℕ) (s : List ℕ) → map f (take k s) ≡ take k (map f s)
@@ -45,28 +45,29 @@ module _ (t d : List ℕ) (a b n : ℕ) (p : a + n ≤ length t) (q : b + n ≤ 
       let l : length (map fold d) ≡ length d = length-map fold d in
       simp (u, v, map-part fold) (rw (← e) (sym (both t (map fold d) (a + o) (b + o) j k (omega arith) (omega arith))))
 
-  -- one byte
-  same-one : (o : ℕ) → o < n → eqb (bit (not (eqb (getD t (a + o) 0) (fold (getD d (b + o) 0))))) 0 ≡ sameBytes o 1
+  -- byte i
+  same-one : (i : ℕ) → i < n → sameBytes i 1 ≡ eqb (getD t (a + i) 0) (fold (getD d (b + i) 0))
   unfolding same part
-  same-one o h =
-      let l : a + o < length t = omega arith in
-      let m : b + o < length d = omega arith in
-      let v = eqb (getD t (a + o) 0) (fold (getD d (b + o) 0)) in
-      bit-none (not v) ∙ Bool·not-not v ∙ (rw (drop-cons t (a + o) 0 l, drop-cons d (b + o) 0 m) (sym (and-true v)))
+  same-one i h =
+      let l : a + i < length t = omega arith in
+      let m : b + i < length d = omega arith in
+      rw (drop-cons t (a + i) 0 l, drop-cons d (b + i) 0 m) (and-true (eqb (getD t (a + i) 0) (fold (getD d (b + i) 0))))
 
-  -- one byte more
-  pub same-next : (i x : ℕ) → i < n → eqb x 0 ≡ same (part a i t) (map fold (part b i d))
-      → eqb (bitOr x (bit (not (eqb (getD t (a + i) 0) (fold (getD d (b + i) 0)))))) 0 ≡ same (part a (i + 1) t) (map fold (part b (i + 1) d))
-  same-next i x h e =
-      let f : eqb x 0 ≡ sameBytes 0 i = simp add-zero e in
-      simp add-zero at
-      (or-next sameBytes n same-both 0 i x (bit (not (eqb (getD t (a + i) 0) (fold (getD d (b + i) 0))))) (omega arith) f (rw zero-add (same-one i h)))
+  -- the first i agree, and byte i
+  pub same-next : (i : ℕ) → i < n → same (part a i t) (map fold (part b i d)) ≡ true → getD t (a + i) 0 ≡ fold (getD d (b + i) 0)
+      → same (part a (i + 1) t) (map fold (part b (i + 1) d)) ≡ true
+  same-next i h s e =
+      let f : sameBytes 0 i ≡ true = simp add-zero s in
+      let g : sameBytes (0 + i) 1 ≡ true = rw zero-add (same-one i h ∙ eq-eqb _ _ e) in
+      simp add-zero at (sym (same-both 0 (i + 1) i 1 refl (omega arith)) ∙ and-both (sameBytes 0 i) (sameBytes (0 + i) 1) f g)
 
-  -- the first m and the last k are all n
-  pub same-cover : (m k : ℕ) → m ≤ n → k ≤ n → n ≤ m + k
-      → same (part a m t) (map fold (part b m d)) && same (part (a + (n - k)) k t) (map fold (part (b + (n - k)) k d))
-      ≡ same (part a n t) (map fold (part b n d))
-  same-cover m k hm hk hc = simp (add-zero, zero-add) at (cover sameBytes n same-both 0 n m k hm hk hc (omega arith))
+  -- byte i differs
+  pub same-differs : (i : ℕ) → i < n → getD t (a + i) 0 ≢ fold (getD d (b + i) 0) → same (part a n t) (map fold (part b n d)) ≡ false
+  same-differs i h e =
+      let g : sameBytes i 1 ≡ false = same-one i h ∙ ne-eqb _ _ e in
+      let r : sameBytes (0 + i) (n - i) ≡ false = rw (zero-add, ← same-both i (n - i) 1 (n - i - 1) (omega arith) (omega arith), g) refl in
+      let w : sameBytes 0 n ≡ false = rw (← same-both 0 n i (n - i) (omega arith) (omega arith), r) (and-false (sameBytes 0 i)) in
+      simp add-zero at w
 
 -- a turn of a copy
 pub fold-step : (at from i : ℕ) (d s : List ℕ) → from + i < length d → at + i < length s

@@ -1,2 +1,4 @@
 pub mod FoldLaws
+pub mod FoldTable
 pub mod NameLaws
+pub mod TableLaws

@@ -3,7 +3,7 @@ use Prim.Native.Nat.{ℕ, zero, suc, _+_, _-_, _≤_, _<_}
 use native.Mathlib.Nat.{add-zero, sub-zero}
 use native.Mathlib.Omega.{arith}
 use mathlib.Core.Path.{_≡_, refl, sym, ap, _∙_}
-use mathlib.Core.Bool.{Bool, true, false, not, cond, _&&_, and-true}
+use mathlib.Core.Bool.{Bool, true, false, not, cond, _&&_, and-true, Bool·not-not}
 use mathlib.Core.List.{List, [], _∷_}
 use mathlib.Core.Logic.{_≢_}
 use lib.ListN.{length, getD}
@@ -12,12 +12,13 @@ use lib.Seq.{drop-cons}
 use borrow.Author.Tests.{eqb-true, eq-eqb, ne-eqb, ltb-true, lt-ltb, le-ltb}
 use Rattle.model.specs.Lists.{bit, every}
 use Rattle.model.specs.Numbers.{part}
-use Rattle.model.specs.Names.{upper, lowerName}
+use Rattle.model.specs.Names.{fold, lowerName}
 use Rattle.model.proofs.NumberLaws.{part-none, length-part}
 use Rattle.model.proofs.ListLaws.{iff, every-append, part-add}
-use Rattle.model.proofs.NameLaws.{below-upper}
+use Rattle.model.proofs.NameLaws.{below-upper, fold-same}
 use Rattle.layout.proofs.ShapeLaws.{part-head}
 use Rattle.names.specs.Labels.{labelled, lowerCase}
+use Rattle.names.proofs.FoldTable.{upper-moves}
 use Rattle.octets.proofs.Cover.{bit-none}
 
 -- THE TWO TESTS are the name's
@@ -32,17 +33,21 @@ turned true b c = refl
 turned false true c = refl
 turned false false c = refl
 
+-- a length byte is left alone
+stays : (b : ℕ) → b < 65 → eqb (fold b) b ≡ true
+stays b l = eq-eqb (fold b) b (fold-same b (below-upper b l))
+
 pub name-is : (k : ℕ) (s : List ℕ) → lowerName k s ≡ labelled k s && lowerCase s
 unfolding lowerName labelled every
 name-is k [] = refl
 name-is zero (b ∷ s) = go (eqb b 0) (ltb b 64) refl refl (name-is b s)
   where
     go : (u v : Bool) → eqb b 0 ≡ u → ltb b 64 ≡ v → lowerName b s ≡ labelled b s && lowerCase s
-        → cond u (eqb (length s) 0) (v && lowerName b s) ≡ cond u (eqb (length s) 0) (v && labelled b s) && (not (upper b) && lowerCase s)
-    go true v e f r = let z : b ≡ 0 = eqb-true b 0 e in rw z (none-left s)
-    go false true e f r = let l : b < 65 = omega (arith, ltb-true b 64 f) in rw (below-upper b l) r
+        → cond u (eqb (length s) 0) (v && lowerName b s) ≡ cond u (eqb (length s) 0) (v && labelled b s) && (eqb (fold b) b && lowerCase s)
+    go true v e f r = let z : b ≡ 0 = eqb-true b 0 e in rw (stays b (omega arith)) (none-left s)
+    go false true e f r = rw (stays b (omega (arith, ltb-true b 64 f))) r
     go false false e f r = refl
-name-is (suc k) (b ∷ s) = rw (name-is k s) (turned (not (upper b)) (labelled k s) (lowerCase s))
+name-is (suc k) (b ∷ s) = rw (upper-moves b, Bool·not-not (eqb (fold b) b), name-is k s) (turned (eqb (fold b) b) (labelled k s) (lowerCase s))
 
 -- LABELS
 
@@ -103,7 +108,7 @@ module _ (s : List ℕ) (at len i : ℕ) (inv : labelled 0 (part at len s) ≡ l
 
 -- CASE
 
--- none of the n bytes from index at is a letter A to Z
+-- the fold leaves each of the n bytes from index at alone
 abbrev pub lowerBytes : List ℕ → ℕ → ℕ → Bool
 lowerBytes s at n = lowerCase (part at n s)
 
@@ -111,8 +116,9 @@ module _ (s : List ℕ) where
   -- n bytes are j and then k
   pub lower-both : (at n j k : ℕ) → j + k ≡ n → at + n ≤ length s → lowerBytes s at j && lowerBytes s (at + j) k ≡ lowerBytes s at n
   lower-both at n j k e h =
-      sym (ap (λ (x : ℕ). lowerBytes s at x) (sym e) ∙ ap lowerCase (part-add at j k s) ∙ every-append (λ b. not (upper b)) (part at j s) (part (at + j) k s))
+      sym (ap (λ (x : ℕ). lowerBytes s at x) (sym e) ∙ ap lowerCase (part-add at j k s) ∙ every-append (λ b. eqb (fold b) b) (part at j s) (part (at + j) k s))
 
-  pub lower-one : (at : ℕ) → at < length s → eqb (bit (upper (getD s at 0))) 0 ≡ lowerBytes s at 1
+  pub lower-one : (at : ℕ) → at < length s → eqb (bit (not (eqb (fold (getD s at 0)) (getD s at 0)))) 0 ≡ lowerBytes s at 1
   unfolding every part
-  lower-one at h = rw (drop-cons s at 0 h) (bit-none (upper (getD s at 0)) ∙ sym (and-true (not (upper (getD s at 0)))))
+  lower-one at h =
+      let v = eqb (fold (getD s at 0)) (getD s at 0) in rw (drop-cons s at 0 h) (bit-none (not v) ∙ Bool·not-not v ∙ sym (and-true v))

@@ -1,1 +1,2 @@
+pub mod FoldTable
 pub mod Labels

@@ -7,72 +7,27 @@ ghost use lib.ListN.{length};
 ghost use lib.Dec.{eqb};
 ghost use Rattle.model.specs.Lists.{bit, same};
 ghost use Rattle.model.specs.Numbers.{part, splice};
-ghost use Rattle.model.specs.Names.{upper, fold, lowerName};
+ghost use Rattle.model.specs.Names.{fold, lowerName};
 ghost use Rattle.names.specs.Labels.{labelled, lowerCase};
+use fold_table::FOLD;
+use fold_table::folded;
 
-// A to Z folded to a to z, other bytes as they are.
-pub fn fold(b: u8) -> u8
-    ensures { λ r. ⌜ r ≡ fold b ⌝ }
-{
-    if b < 65 {
-        return b;
-    }
-    if b > 90 {
-        return b;
-    }
-    b + 32
-}
+pub mod fold_table;
 
-// 0 where the bytes agree.
-fn differ(x: u8, y: u8) -> u8
-    ensures { λ r. ⌜ r ≡ bit (not (eqb x y)) ⌝ }
-{
-    if x == y {
-        return 0;
-    }
-    1
-}
-
-// The n bytes of t from index a are those of d from index b, folded. The loop has one way out, so that it compiles to vectors.
-fn same_bytes(t: &[u8], a: usize, d: &[u8], b: usize, n: usize) -> bool
-    requires { ⌜ (a + n ≤ length (now t)) × (b + n ≤ length (now d)) ⌝ }
-    ensures { λ r. ⌜ r ≡ same (part a n (now (t .entry))) (map fold (part b n (now (d .entry)))) ⌝ }
-{
-    let mut x: u8 = 0;
-    let mut i: usize = 0;
-    while i < n {
-        x = x | differ(t[a + i], fold(d[b + i]));
-        i += 1;
-    }
-    x == 0
-}
-
-// The same of fewer than 32 bytes: from 16 on the first 16 and the last 16.
-fn same_short(t: &[u8], a: usize, d: &[u8], b: usize, n: usize) -> bool
-    requires { ⌜ (n < 32) × (a + n ≤ length (now t)) × (b + n ≤ length (now d)) ⌝ }
-    ensures { λ r. ⌜ r ≡ same (part a n (now (t .entry))) (map fold (part b n (now (d .entry)))) ⌝ }
-{
-    if n < 16 {
-        return same_bytes(t, a, d, b, n);
-    }
-    if same_bytes(t, a, d, b, 16) {
-        return same_bytes(t, a + (n - 16), d, b + (n - 16), 16);
-    }
-    false
-}
-
-// The stored name of n bytes at a is the sent one at b, folded: in blocks of 32 and then the last 32.
+// The stored name of n bytes at a is the sent one at b, folded: from the front to the first difference.
 pub fn same_name(t: &[u8], a: usize, d: &[u8], b: usize, n: usize) -> bool
     requires { ⌜ (a + n ≤ length (now t)) × (b + n ≤ length (now d)) ⌝ }
     ensures { λ r. ⌜ r ≡ same (part a n (now (t .entry))) (map fold (part b n (now (d .entry)))) ⌝ }
 {
-    if n < 32 {
-        return same_short(t, a, d, b, n);
+    let table = FOLD;
+    let mut i: usize = 0;
+    while i < n {
+        if t[a + i] != folded(&table, d[b + i]) {
+            return false;
+        }
+        i += 1;
     }
-    if same_bytes(t, a, d, b, 32 * (n / 32)) {
-        return same_bytes(t, a + (n - 32), d, b + (n - 32), 32);
-    }
-    false
+    true
 }
 
 // The n bytes of d from index from, folded, copied to s at index at.
@@ -80,16 +35,17 @@ pub fn copy_folded(s: &mut [u8], at: usize, d: &[u8], from: usize, n: usize)
     requires { ⌜ (at + n ≤ length (now s)) × (from + n ≤ length (now d)) ⌝ }
     ensures { λ _. ⌜ now (s .exit) ≡ splice at n (map fold (part from n (now (d .entry)))) (now (s .entry)) ⌝ }
 {
+    let table = FOLD;
     let mut i: usize = 0;
     while i < n {
-        s[at + i] = fold(d[from + i]);
+        s[at + i] = folded(&table, d[from + i]);
         i += 1;
     }
 }
 
 // 1 for a letter A to Z.
 fn capital(c: u8) -> u8
-    ensures { λ r. ⌜ r ≡ bit (upper c) ⌝ }
+    ensures { λ r. ⌜ r ≡ bit (not (eqb (fold c) c)) ⌝ }
 {
     if c < 65 {
         return 0;

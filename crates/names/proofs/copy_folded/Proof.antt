@@ -8,31 +8,33 @@ use lib.ListN.{length, length-set}
 use Rattle.model.specs.Numbers.{part, splice}
 use Rattle.model.specs.Names.{fold}
 use Rattle.model.proofs.NumberLaws.{splice-none}
+use Rattle.names.specs.FoldTable.{foldTable}
 use Rattle.names.proofs.FoldLaws.{fold-step}
 use Rattle.names.proofs.copy_folded.Statement.{statement}
 use Rattle.names.proofs.copy_folded.Tie as tie
 use Rattle.names.proofs.copy_folded.Reads as reads
 use Rattle.names.proofs.copy_folded.Lts as lts
-use Rattle.names.proofs.fold.Reads as fold-reads
+use Rattle.names.proofs.fold_table.folded.Reads as folded-reads
 
 abbrev Inv-loop : tie.InvT-loop
-Inv-loop s₀ at d from n i₀ s i = (i ≤ n) × (length s ≡ length s₀) × (s ≡ splice at i (map fold (part from i d)) s₀)
+Inv-loop s₀ at d from n table i₀ s i = (i ≤ n) × (length s ≡ length s₀) × (s ≡ splice at i (map fold (part from i d)) s₀)
 
 abbrev μ-loop : tie.MeasureT-loop
-μ-loop s₀ at d from n i₀ s i = n - i
+μ-loop s₀ at d from n table i₀ s i = n - i
 
 loop-holds : tie.Need-loop-holds Inv-loop μ-loop
 unfolding part
 loop-holds c = (omega arith, refl, sym (splice-none _ _))
 
-add-fold : tie.Need-add-fold Inv-loop μ-loop
-add-fold c = search needs
+add-folded : tie.Need-add-folded Inv-loop μ-loop
+add-folded c = search needs
 
-shared-slice-read-fold : tie.Need-shared-slice-read-fold Inv-loop μ-loop
-shared-slice-read-fold c = search needs
+shared-slice-read-folded : tie.Need-shared-slice-read-folded Inv-loop μ-loop
+shared-slice-read-folded c = search needs
 
-fold-requires : tie.Need-fold-requires Inv-loop μ-loop
-fold-requires c κs = search needs
+folded-requires : tie.Need-folded-requires Inv-loop μ-loop
+unfolding foldTable
+folded-requires c κs = refl
 
 add-s : tie.Need-add-s Inv-loop μ-loop
 add-s c = search needs
@@ -48,8 +50,8 @@ loop-less c = search needs
 
 loop-again : tie.Need-loop-again Inv-loop μ-loop
 loop-again c =
-    let l = c .before .before .before .loop in
-    (omega arith, simp length-set (omega arith), rw (l .inv .2, c .fold .ensures) (fold-step _ _ (l .i) _ _ (omega arith) (omega arith)))
+    let l = c .before .before .before .before .loop in
+    (omega arith, simp length-set (omega arith), rw (l .inv .2, c .folded .ensures) (fold-step _ _ (l .i) _ _ (omega arith) (omega arith)))
 
 same-length : tie.Need-same-length Inv-loop μ-loop
 same-length c = search needs
@@ -66,9 +68,9 @@ copy-folded-spec =
     Inv-loop
     μ-loop
     loop-holds
-    add-fold
-    shared-slice-read-fold
-    fold-requires
+    add-folded
+    shared-slice-read-folded
+    folded-requires
     add-s
     slice-write-s
     add-i

@@ -1,59 +1,84 @@
--- `names::same_name` meets its contract: the blocks and the last 32 cover all. Assumes nothing.
-use Prim.Native.Nat.{_*_, _/_}
-use mathlib.Core.Path.{sym, _∙_}
+-- `names::same_name` meets its contract: the bytes passed agree, and the first that differs decides. Assumes nothing.
+use Prim.Native.Nat.{_-_, _≤_}
+use mathlib.Core.Path.{_≡_, refl, sym, _∙_}
+use mathlib.Core.Bool.{true}
+use mathlib.Core.List.{map}
 use native.Mathlib.Omega.{arith}
-use Rattle.names.proofs.FoldLaws.{same-cover}
 use borrow.Author.Needs.{needs}
+use Rattle.model.specs.Lists.{same}
+use Rattle.model.specs.Numbers.{part}
+use Rattle.model.specs.Names.{fold}
+use Rattle.names.specs.FoldTable.{foldTable}
+use Rattle.names.proofs.FoldLaws.{same-next, same-differs}
 use Rattle.names.proofs.same_name.Statement.{statement}
 use Rattle.names.proofs.same_name.Tie as tie
 use Rattle.names.proofs.same_name.Reads as reads
 use Rattle.names.proofs.same_name.Lts as lts
-use Rattle.names.proofs.same_bytes.Reads as same-bytes-reads
-use Rattle.names.proofs.same_short.Reads as same-short-reads
+use Rattle.names.proofs.fold_table.folded.Reads as folded-reads
 
-same-short-requires : tie.Need-same-short-requires
-same-short-requires c κs = search needs
+abbrev Inv-loop : tie.InvT-loop
+Inv-loop t a d b n table i₀ i = (i ≤ n) × (same (part a i t) (map fold (part b i d)) ≡ true)
 
-returns : tie.Need-returns
-returns c = search needs
+abbrev μ-loop : tie.MeasureT-loop
+μ-loop t a d b n table i₀ i = n - i
 
-mul-same-bytes : tie.Need-mul-same-bytes
-mul-same-bytes c = search needs
+loop-holds : tie.Need-loop-holds Inv-loop μ-loop
+unfolding same part
+loop-holds c = (search needs, refl)
 
-same-bytes-requires : tie.Need-same-bytes-requires
-same-bytes-requires c κs = search needs
+add-if1 : tie.Need-add-if1 Inv-loop μ-loop
+add-if1 c = search needs
 
-add-same-bytes : tie.Need-add-same-bytes
-add-same-bytes c = search needs
+shared-slice-read-if1 : tie.Need-shared-slice-read-if1 Inv-loop μ-loop
+shared-slice-read-if1 c = search needs
 
-add-same-bytes-2 : tie.Need-add-same-bytes-2
-add-same-bytes-2 c = search needs
+add-folded : tie.Need-add-folded Inv-loop μ-loop
+add-folded c = search needs
 
-same-bytes-requires-2 : tie.Need-same-bytes-requires-2
-same-bytes-requires-2 c κs = search needs
+shared-slice-read-folded : tie.Need-shared-slice-read-folded Inv-loop μ-loop
+shared-slice-read-folded c = search needs
 
-returns-2 : tie.Need-returns-2
+folded-requires : tie.Need-folded-requires Inv-loop μ-loop
+unfolding foldTable
+folded-requires c κs = refl
+
+returns : tie.Need-returns Inv-loop μ-loop
+returns c =
+    let l = c .before .before .before .before .before .before .loop in
+    let a = c .before .before .before .before .before .before .before .before .before .args in
+    sym (same-differs (a .t .now) (a .d .now) (a .a) (a .b) (a .n) (omega arith) (omega arith) (l .i) (omega arith) (rw (c .before .folded .ensures) at (c .if1 .taken)))
+
+add-i : tie.Need-add-i Inv-loop μ-loop
+add-i c = search needs
+
+loop-less : tie.Need-loop-less Inv-loop μ-loop
+loop-less c = search needs
+
+loop-again : tie.Need-loop-again Inv-loop μ-loop
+loop-again c =
+    let l = c .before .before .before .before .before .before .loop in
+    let a = c .before .before .before .before .before .before .before .before .before .args in
+    (omega arith, same-next (a .t .now) (a .d .now) (a .a) (a .b) (a .n) (omega arith) (omega arith) (l .i) (omega arith) (l .inv .1) (c .if1 .left ∙ c .before .folded .ensures))
+
+returns-2 : tie.Need-returns-2 Inv-loop μ-loop
 returns-2 c =
-    let a = c .before .before .before .before .before .before .args in
-    let z = same-cover (a .t .now) (a .d .now) (a .a) (a .b) (a .n) (omega arith) (omega arith) (32 * (a .n / 32)) 32 (omega arith) (omega arith) (omega arith) in
-    c .same-bytes2 .ensures ∙ (rw (sym (c .before .before .same-bytes .ensures) ∙ c .before .if2 .taken) at z)
-
-returns-3 : tie.Need-returns-3
-returns-3 c =
-    let a = c .before .before .before .before .before .args in
-    let z = same-cover (a .t .now) (a .d .now) (a .a) (a .b) (a .n) (omega arith) (omega arith) (32 * (a .n / 32)) 32 (omega arith) (omega arith) (omega arith) in
-    rw (sym (c .before .same-bytes .ensures) ∙ c .if2 .left) at z
+    let e : c .before .loop .i ≡ c .before .before .before .before .args .n = omega arith in
+    sym (rw e at (c .before .loop .inv .1))
 
 pub same-name-spec : {M : Type 1} → statement M
 same-name-spec =
     tie.close
     (tie.spec
-    same-short-requires
+    Inv-loop
+    μ-loop
+    loop-holds
+    add-if1
+    shared-slice-read-if1
+    add-folded
+    shared-slice-read-folded
+    folded-requires
     returns
-    mul-same-bytes
-    same-bytes-requires
-    add-same-bytes
-    add-same-bytes-2
-    same-bytes-requires-2
-    returns-2
-    returns-3)
+    add-i
+    loop-less
+    loop-again
+    returns-2)
