@@ -1,5 +1,5 @@
 #!/usr/bin/env bash
-# Setup, the setup again, response, refresh and end, the limits, the listed address; kill -9 and SIGTERM, and the entries taken up again.
+# Setup, the setup again, response, refresh and end, names in either case, the limits, the listed address; kill -9 and SIGTERM, and the entries taken up again.
 . "$(dirname "$0")/lib.sh"
 alone
 
@@ -32,6 +32,21 @@ found 'the setup again when established' 127.0.0.2 18501 panel.example 3600
 is refresh "$(llq 127.0.0.2 18501 panel.example 2 $number 9000)" "0 $number 7200"
 is end "$(llq 127.0.0.2 18501 panel.example 2 $number 0)" "0 $number 0"
 is 'a refresh of what has ended' "$(llq 127.0.0.2 18501 panel.example 2 $number 60)" "4 $number 0"
+
+# ---- letters of either case are one name, stored in small ones; the bytes beside them and those over 127 are as they are
+established 'a name in mixed case' 127.0.0.2 18503 AbCdEfGhIjKlMnOpQrStUvWxYz.Example 3600
+found 'the same in small letters' 127.0.0.2 18503 abcdefghijklmnopqrstuvwxyz.example 3600
+is 'it is stored in small letters' "$(entries | cut -d ' ' -f 7)" abcdefghijklmnopqrstuvwxyz.example.
+is 'its end in capitals' "$(llq 127.0.0.2 18503 ABCDEFGHIJKLMNOPQRSTUVWXYZ.EXAMPLE 2 $number 0)" "0 $number 0"
+for pair in '064 096' '091 123' '193 225'; do # @ and `, [ and {, 0xC1 and 0xE1
+    set -- $pair
+    established "a name of byte $1" 127.0.0.2 18503 "\\$1.example" 3600
+    one=$number
+    established "a name of byte $2" 127.0.0.2 18503 "\\$2.example" 3600
+    is "bytes $1 and $2 are two names" "$(used)" 2
+    is "the end of byte $1" "$(llq 127.0.0.2 18503 "\\$1.example" 2 $one 0)" "0 $one 0"
+    is "the end of byte $2" "$(llq 127.0.0.2 18503 "\\$2.example" 2 $number 0)" "0 $number 0"
+done
 
 # ---- a chatty client on many ports is held to its limit, and the listed address still gets its share
 for i in 1 2 3 4; do granted "chatty setup $i" 127.0.0.3 1851$i chatty.example 3600; done

@@ -331,10 +331,16 @@ impl<'a> Run<'a> {
                 new.age == 0 && before.holdings.iter().all(|old| old.number != new.number)
             })
             .collect();
-        let granted = answer
-            .cases
-            .iter()
-            .any(|case| matches!(case, Case::Granted | Case::GrantedFromReserve));
+        let is_granted = |case: &Case| matches!(case, Case::Granted | Case::GrantedFromReserve);
+        let granted = answer.cases.iter().any(is_granted);
+        let names = asked.names_sent().into_iter().zip(&answer.cases).zip(&answer.compared);
+        for ((name, case), &compared) in names {
+            let stored = if is_granted(case) { name.len() } else { 0 };
+            coverage.stored.add(name, stored);
+            coverage.compared.add(name, compared);
+        }
+        coverage.mark(Mark::AllValuesStored, coverage.stored.are_all());
+        coverage.mark(Mark::AllValuesCompared, coverage.compared.are_all());
         let in_use = |number: u64| before.holdings.iter().any(|h| h.number == number);
         let name = |wanted: &dyn Fn(&[u8]) -> bool| {
             after.holdings.iter().any(|h| wanted(&h.question.name))
@@ -403,6 +409,7 @@ mod tests {
     use super::*;
     use crate::calls::{Served, Ticked};
     use crate::server::Oracle;
+    use crate::values::Values;
 
     /// The oracle, but a tick says one more was freed.
     struct OneMore;
@@ -431,6 +438,54 @@ mod tests {
         ) -> Served {
             Oracle.serve(week, second, high, low, port, random, datagram, table, reply)
         }
+    }
+
+    /// A setup of one question by one sender.
+    fn setup(name: &[u8]) -> Step {
+        let mut bytes = vec![0x12, 0x34, 1, 0, 0, 1, 0, 0, 0, 0, 0, 1];
+        bytes.extend(name);
+        bytes.extend([0, 12, 0, 1, 0, 0, 41, 5, 0xC0, 0, 0, 0, 0, 0, 22, 0, 1, 0, 18, 0, 1, 0, 1]);
+        bytes.extend([0; 14]);
+        Step::Serve(Datagram {
+            week: 0,
+            second: 0,
+            address_high: 0,
+            address_low: 1,
+            port: 9,
+            random: 7,
+            fill: 0,
+            reply_length: bytes.len(),
+            bytes,
+        })
+    }
+
+    #[test]
+    fn values_count_where_a_name_is_stored_or_compared() {
+        let mut run = Run::new(&Oracle, &Oracle);
+        for (step, stored, compared) in [
+            (Step::Buffer { length: 633, seed: 1 }, &b""[..], &b""[..]),
+            (Step::Make { week: 0, second: 0, roster: vec![] }, b"", b""),
+            (setup(b"\x03aB\xC1\x00"), b"aB\xC1", b""),
+            // Full, with a name of the same length that differs in its second byte, and in its length.
+            (setup(b"\x03Acd\x00"), b"aB\xC1", b"Ac"),
+            (setup(b"\x04efgh\x00"), b"aB\xC1", b"Ac"),
+            // Found.
+            (setup(b"\x03Ab\xC1\x00"), b"aB\xC1", b"Abc\xC1"),
+        ] {
+            assert_eq!(run.step(&step), Ok(()));
+            assert_eq!(run.coverage.stored, stored.iter().copied().collect(), "{step}");
+            assert_eq!(run.coverage.compared, compared.iter().copied().collect(), "{step}");
+        }
+        let mut marks = |change: &dyn Fn(&mut Coverage)| {
+            change(&mut run.coverage);
+            assert_eq!(run.step(&setup(b"\x00")), Ok(()));
+            [Mark::AllValuesStored, Mark::AllValuesCompared]
+                .map(|mark| run.coverage.marks[mark as usize])
+        };
+        let all: Values = (0..=255).collect();
+        assert_eq!(marks(&|_| {}), [0, 0]);
+        assert_eq!(marks(&|coverage| coverage.stored = all.clone()), [1, 0]);
+        assert_eq!(marks(&|coverage| coverage.compared = all.clone()), [2, 1]);
     }
 
     #[test]

@@ -2,6 +2,7 @@
 //! error, and the places that a run must reach to be worth its name.
 
 use crate::tally::Case;
+use crate::values::Values;
 use std::fmt;
 
 /// Places on a rule's edge.
@@ -61,10 +62,12 @@ pub enum Mark {
     LeaseOneOver,
     LeaseBeforeRefresh,
     SetupBehindRefresh,
+    AllValuesStored,
+    AllValuesCompared,
 }
 
 impl Mark {
-    pub const ALL: [(Mark, &'static str); 54] = [
+    pub const ALL: [(Mark, &'static str); 56] = [
         (Mark::StepZero, "step of 0"),
         (Mark::StepLongest, "step of +309,657,599"),
         // Steps back with entries held.
@@ -126,6 +129,9 @@ impl Mark {
         (Mark::LeaseBeforeRefresh, "response told before a refresh"),
         // Setups that find an entry which an option before them in the datagram refreshed.
         (Mark::SetupBehindRefresh, "setup behind a refresh"),
+        // Datagrams answered once every byte value has been sent in labels.
+        (Mark::AllValuesStored, "all 256 values in names stored"),
+        (Mark::AllValuesCompared, "all 256 values in names compared"),
     ];
 }
 
@@ -138,6 +144,10 @@ pub struct Coverage {
     pub errors: [u64; 7],
     pub cases: [u64; Case::ALL.len()],
     pub marks: [u64; Mark::ALL.len()],
+    /// The byte values sent in labels of names that were stored.
+    pub stored: Values,
+    /// Those sent in labels that were compared with stored ones.
+    pub compared: Values,
 }
 
 impl Default for Coverage {
@@ -150,6 +160,8 @@ impl Default for Coverage {
             errors: [0; 7],
             cases: [0; Case::ALL.len()],
             marks: [0; Mark::ALL.len()],
+            stored: Values::default(),
+            compared: Values::default(),
         }
     }
 }
@@ -162,6 +174,11 @@ impl Coverage {
 
     pub fn mark(&mut self, mark: Mark, met: bool) {
         self.marks[mark as usize] += u64::from(met);
+    }
+
+    /// The byte values sent, by what became of them.
+    fn values(&self) -> [(&'static str, &Values); 2] {
+        [("names stored", &self.stored), ("names compared", &self.compared)]
     }
 
     /// What the run has never met of what it must meet.
@@ -196,6 +213,9 @@ impl Coverage {
                 missing.push(name.into());
             }
         }
+        for (names, values) in self.values() {
+            missing.extend(values.missing().map(|byte| format!("value {byte:02x} in {names}")));
+        }
         missing
     }
 }
@@ -222,6 +242,10 @@ impl fmt::Display for Coverage {
         for (mark, name) in Mark::ALL {
             writeln!(to, "  {name:<34}{:10}", self.marks[mark as usize])?;
         }
+        writeln!(to, "byte values sent in labels:")?;
+        for (names, values) in self.values() {
+            writeln!(to, "  {names:<34}{:10}", 256 - values.missing().count())?;
+        }
         Ok(())
     }
 }
@@ -230,9 +254,14 @@ impl fmt::Display for Coverage {
 mod tests {
     use super::*;
 
-    #[test]
-    fn a_mark_that_was_missed_is_named() {
-        let mut met = Coverage {
+    /// All values but these.
+    fn values_but(for_these: &[u8]) -> Values {
+        (0..=255).filter(|byte| !for_these.contains(byte)).collect()
+    }
+
+    /// A run that has met everything.
+    fn met() -> Coverage {
+        Coverage {
             calls: 1,
             makings: [1; 10],
             ticks: [1; 10],
@@ -240,7 +269,24 @@ mod tests {
             errors: [1; 7],
             cases: [1; Case::ALL.len()],
             marks: [1; Mark::ALL.len()],
-        };
+            stored: values_but(&[]),
+            compared: values_but(&[]),
+        }
+    }
+
+    #[test]
+    fn a_value_that_was_missed_is_named() {
+        let met =
+            Coverage { stored: values_but(&[9, 0xC1]), compared: values_but(&[255]), ..met() };
+        assert_eq!(
+            met.missing(),
+            ["value 09 in names stored", "value c1 in names stored", "value ff in names compared"]
+        );
+    }
+
+    #[test]
+    fn a_mark_that_was_missed_is_named() {
+        let mut met = met();
         assert_eq!(met.missing(), Vec::<String>::new());
         for (mark, name) in Mark::ALL {
             met.marks[mark as usize] = 0;

@@ -24,6 +24,7 @@ pub mod script;
 pub mod server;
 pub mod set_back;
 pub mod told;
+pub mod values;
 pub mod variants;
 
 #[cfg(test)]

@@ -53,6 +53,8 @@ pub struct Answer {
     pub cases: Vec<Case>,
     /// The holding that each of them found of its sender and question, as it was then.
     pub found: Vec<Option<Holding>>,
+    /// How many bytes of each one's name were looked at, at the least, to compare it with holdings.
+    pub compared: Vec<usize>,
 }
 
 /// What becomes of an option.
@@ -249,20 +251,23 @@ pub fn serve(
     let freed = tally.move_clock(place);
     let mut options = Vec::new();
     let mut found = Vec::new();
+    let mut compared = Vec::new();
     match sent {
         None => {
             found.push(None);
+            compared.push(0);
             options.push((1, told(Case::Mismatch, 0, 0)));
         }
         Some(sent) => {
             for (question, sent) in datagram.questions.iter().zip(&sent) {
                 found.push(tally.holding(from, question).map(|at| tally.holdings[at].clone()));
+                compared.push(tally.compared(from, question, sent));
                 options.push((sent.opcode, tally.option(from, random, question, sent)));
             }
         }
     }
     let cases = options.iter().map(|(_, told)| told.case).collect();
-    Answer { number: 0, freed, reply: reply(&datagram, &options), cases, found }
+    Answer { number: 0, freed, reply: reply(&datagram, &options), cases, found, compared }
 }
 
 /// What an option of the reply says.
@@ -330,6 +335,28 @@ impl Tally {
         self.holdings.iter().position(|holding| {
             (holding.address, holding.port) == from && holding.question == *question
         })
+    }
+
+    /// How far a name is looked at, from its front, by one who leaves off at the first difference
+    /// from a holding's of the same length. Only holdings count that the option fits but for its name.
+    fn compared(&self, from: From, question: &Question, sent: &Sent) -> usize {
+        let length = question.name.len();
+        let alike = |holding: &&Holding| {
+            let held = &holding.question;
+            (holding.address, holding.port) == from
+                && (held.qtype, held.qclass) == (question.qtype, question.qclass)
+                && held.name.len() == length
+        };
+        let fits = |holding: &&Holding| {
+            let holdings = vec![Holding::clone(holding)];
+            let mut alone = Tally { roster: Vec::new(), holdings, ..*self };
+            alone.option(from, 0, &holding.question, sent).case.error() == 0
+        };
+        let looked_at = |holding: &Holding| {
+            let pairs = holding.question.name.iter().zip(&question.name);
+            length.min(1 + pairs.take_while(|(held, sent)| held == sent).count())
+        };
+        self.holdings.iter().filter(alike).filter(fits).map(looked_at).max().unwrap_or(0)
     }
 
     fn option(&mut self, from: From, random: u64, question: &Question, sent: &Sent) -> Told {
@@ -533,6 +560,64 @@ mod tests {
                 assert_eq!(tally.holdings, [after]);
             }
         }
+    }
+
+    /// Up to the first difference, and only where all but the name is right.
+    #[test]
+    fn names_are_compared_as_far_as_they_are_the_same() {
+        let asked = |name: &[u8]| Question { name: name.to_vec(), qtype: 1, qclass: 1 };
+        let held = |name, number, established| Holding {
+            question: asked(name),
+            number,
+            established,
+            ..holding(100, 10)
+        };
+        let tally = Tally {
+            place: 0,
+            count: 0,
+            slots: 4,
+            roster: vec![],
+            holdings: vec![held(b"\x03abc\x00", 1, false), held(b"\x03abd\x00", 2, true)],
+        };
+        let from = ([0; 16], 0);
+        let setup = Sent { version: 1, opcode: 1, error: 0, number: 0, lease: 0 };
+        for (name, looked_at) in [
+            (&b"\x03abc\x00"[..], 5),
+            (b"\x03abd\x00", 5),
+            (b"\x03abe\x00", 4),
+            (b"\x03acd\x00", 3),
+            (b"\x01a\x01b\x00", 1),
+            (b"\x04abcd\x00", 0),
+            (b"\x00", 0),
+        ] {
+            assert_eq!(tally.compared(from, &asked(name), &setup), looked_at, "{name:?}");
+        }
+        let name = asked(b"\x03aBC\x00");
+        for (opcode, number, lease, looked_at) in [
+            // Responses: the span is from 90 to 100.
+            (1, 1, 90, 3),
+            (1, 2, 100, 3),
+            (1, 3, 100, 0),
+            (1, 1, 89, 0),
+            (1, 1, 101, 0),
+            // Refreshes: of what is established.
+            (2, 2, 0, 3),
+            (2, 2, 60, 3),
+            (2, 1, 60, 0),
+            (2, 0, 60, 0),
+            (3, 2, 60, 0),
+        ] {
+            let sent = Sent { opcode, number, lease, ..setup };
+            assert_eq!(tally.compared(from, &name, &sent), looked_at, "{sent:?}");
+        }
+        for other in [Sent { version: 2, ..setup }, Sent { error: 1, ..setup }] {
+            assert_eq!(tally.compared(from, &name, &other), 0);
+        }
+        for other in [([1; 16], 0), ([0; 16], 1)] {
+            assert_eq!(tally.compared(other, &name, &setup), 0);
+        }
+        assert_eq!(tally.compared(from, &Question { qtype: 2, ..name.clone() }, &setup), 0);
+        assert_eq!(tally.compared(from, &Question { qclass: 2, ..name }, &setup), 0);
     }
 
     #[test]

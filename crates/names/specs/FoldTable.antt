@@ -5,7 +5,7 @@ use mathlib.Core.List.{List, [], _∷_}
 use lib.ListN.{length, getD}
 use Rattle.model.specs.Names.{fold}
 
--- entry b is byte b folded: the numbers of the code's constant, `names::FOLD`; a row has sixteen, and 65 to 90 (A to Z) have 97 to 122 (a to z)
+-- entry b is byte b folded, sixteen to a row: the numbers of the code's constant (`names::fold_table::FOLD`). 65 to 90 (A to Z) have 97 to 122.
 unfoldable pub foldTable : List ℕ
 foldTable =
     0 ∷ 1 ∷ 2 ∷ 3 ∷ 4 ∷ 5 ∷ 6 ∷ 7 ∷ 8 ∷ 9 ∷ 10 ∷ 11 ∷ 12 ∷ 13 ∷ 14 ∷ 15

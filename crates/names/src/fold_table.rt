@@ -1,10 +1,11 @@
-// The fold of names as a table: entry b is byte b folded, A to Z to a to z, other bytes as they are. It is proved to be what the rule gives.
+// The fold of names by a table, and its look-up: every sent name that is compared or stored goes through them.
 ghost use mathlib.Core.Path.{_≡_};
 ghost use Rattle.model.specs.Names.{fold};
 ghost use Rattle.names.specs.FoldTable.{foldTable};
 
+// Entry b is byte b folded: A to Z to a to z, other bytes as they are.
 pub const FOLD: [u8; 256] = [
-    // 0 to 15
+    // 0x00 to 0x0F
     0,
     1,
     2,
@@ -21,7 +22,7 @@ pub const FOLD: [u8; 256] = [
     13,
     14,
     15,
-    // 16 to 31
+    // 0x10 to 0x1F
     16,
     17,
     18,
@@ -38,7 +39,7 @@ pub const FOLD: [u8; 256] = [
     29,
     30,
     31,
-    // 32 to 47
+    // 0x20 to 0x2F
     32,
     33,
     34,
@@ -55,7 +56,7 @@ pub const FOLD: [u8; 256] = [
     45,
     46,
     47,
-    // 48 to 63
+    // 0x30 to 0x3F
     48,
     49,
     50,
@@ -72,7 +73,7 @@ pub const FOLD: [u8; 256] = [
     61,
     62,
     63,
-    // 64 to 79
+    // 0x40 to 0x4F
     64,
     97, // A
     98,
@@ -89,7 +90,7 @@ pub const FOLD: [u8; 256] = [
     109,
     110,
     111,
-    // 80 to 95
+    // 0x50 to 0x5F
     112,
     113,
     114,
@@ -106,7 +107,7 @@ pub const FOLD: [u8; 256] = [
     93,
     94,
     95,
-    // 96 to 111
+    // 0x60 to 0x6F
     96,
     97, // a
     98,
@@ -123,7 +124,7 @@ pub const FOLD: [u8; 256] = [
     109,
     110,
     111,
-    // 112 to 127
+    // 0x70 to 0x7F
     112,
     113,
     114,
@@ -140,7 +141,7 @@ pub const FOLD: [u8; 256] = [
     125,
     126,
     127,
-    // 128 to 143
+    // 0x80 to 0x8F
     128,
     129,
     130,
@@ -157,7 +158,7 @@ pub const FOLD: [u8; 256] = [
     141,
     142,
     143,
-    // 144 to 159
+    // 0x90 to 0x9F
     144,
     145,
     146,
@@ -174,7 +175,7 @@ pub const FOLD: [u8; 256] = [
     157,
     158,
     159,
-    // 160 to 175
+    // 0xA0 to 0xAF
     160,
     161,
     162,
@@ -191,7 +192,7 @@ pub const FOLD: [u8; 256] = [
     173,
     174,
     175,
-    // 176 to 191
+    // 0xB0 to 0xBF
     176,
     177,
     178,
@@ -208,7 +209,7 @@ pub const FOLD: [u8; 256] = [
     189,
     190,
     191,
-    // 192 to 207
+    // 0xC0 to 0xCF
     192,
     193,
     194,
@@ -225,7 +226,7 @@ pub const FOLD: [u8; 256] = [
     205,
     206,
     207,
-    // 208 to 223
+    // 0xD0 to 0xDF
     208,
     209,
     210,
@@ -242,7 +243,7 @@ pub const FOLD: [u8; 256] = [
     221,
     222,
     223,
-    // 224 to 239
+    // 0xE0 to 0xEF
     224,
     225,
     226,
@@ -259,7 +260,7 @@ pub const FOLD: [u8; 256] = [
     237,
     238,
     239,
-    // 240 to 255
+    // 0xF0 to 0xFF
     240,
     241,
     242,
@@ -278,7 +279,7 @@ pub const FOLD: [u8; 256] = [
     255,
 ];
 
-// A byte folded. The table is lent, since a constant that is indexed is built anew at each look-up: a caller copies it once for each name.
+// A byte folded, by a copy of the table. A caller makes one copy for each name: a constant that is indexed is copied anew at each look-up.
 pub fn folded(table: &[u8; 256], b: u8) -> u8
     requires { ⌜ now table ≡ foldTable ⌝ }
     ensures { λ r. ⌜ r ≡ fold b ⌝ }

@@ -43,7 +43,8 @@ pub fn copy_folded(s: &mut [u8], at: usize, d: &[u8], from: usize, n: usize)
     }
 }
 
-// 1 for a letter A to Z.
+// 1 for a letter A to Z, which the fold does not leave alone. The test of a stored name's case does not fold, and runs over every name on every
+// call: these comparisons compile to vectors, and a look-up does not (docs/DECISIONS.md, "Speed").
 fn capital(c: u8) -> u8
     ensures { λ r. ⌜ r ≡ bit (not (eqb (fold c) c)) ⌝ }
 {

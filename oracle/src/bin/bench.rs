@@ -51,12 +51,25 @@ enum Call {
     Response,
     DamagedDatagram,
     DamagedTable,
+    /// A repeated setup of 4 questions with the longest names.
+    LongSetup,
+    /// A new question set up, answered and ended.
+    Handshake,
 }
 
 use Call::*;
 
-const CALLS: [Call; 7] =
-    [Tick, Refresh(1), Refresh(4), Setup, Response, DamagedDatagram, DamagedTable];
+const CALLS: [Call; 9] = [
+    Tick,
+    Refresh(1),
+    Refresh(4),
+    Setup,
+    Response,
+    DamagedDatagram,
+    DamagedTable,
+    LongSetup,
+    Handshake,
+];
 
 impl Call {
     fn name(self) -> String {
@@ -68,15 +81,43 @@ impl Call {
             Response => "response of 1 question".into(),
             DamagedDatagram => "damaged datagram (6)".into(),
             DamagedTable => "damaged table (1)".into(),
+            LongSetup => "repeated setup of 4, 255 B".into(),
+            Handshake => "setup, response, end".into(),
         }
     }
 
-    /// How many questions the datagram has.
+    /// How many questions a datagram has.
     fn questions(self) -> usize {
         match self {
             Refresh(questions) => questions,
+            LongSetup => 4,
             _ => 1,
         }
+    }
+
+    /// How many entries the caller holds.
+    fn held(self) -> usize {
+        match self {
+            Handshake => 3,
+            _ => self.questions().max(2),
+        }
+    }
+
+    /// How many slots are free for it.
+    fn free(self) -> usize {
+        match self {
+            Handshake => 1,
+            _ => 0,
+        }
+    }
+
+    /// The wire names of a client's first questions.
+    fn names(self, client: Client, questions: usize) -> Vec<Vec<u8>> {
+        let name = |question| match self {
+            LongSetup => client.long_name(question),
+            _ => client.name(question),
+        };
+        (0..questions).map(name).collect()
     }
 
     /// The number of the answer.
@@ -110,9 +151,19 @@ impl Client {
 
     /// The wire name of one of its questions, with capitals as clients may send them.
     fn name(self, question: usize) -> Vec<u8> {
+        self.wire_name(question, &["_udp", "Museum", "example"])
+    }
+
+    /// The same with labels in mixed case that bring it to 255 bytes.
+    fn long_name(self, question: usize) -> Vec<u8> {
+        let label = "MuSeUm".repeat(11);
+        self.wire_name(question, &[&label[..63], &label[..63], &label[..63], &label[..51]])
+    }
+
+    fn wire_name(self, question: usize, labels: &[&str]) -> Vec<u8> {
         let first = format!("_gate{question}-{:02}", self.0);
         let mut name = Vec::new();
-        for label in [&first, "_udp", "Museum", "example"] {
+        for label in [&[&first[..]], labels].concat() {
             name.push(label.len() as u8);
             name.extend(label.as_bytes());
         }
@@ -120,12 +171,12 @@ impl Client {
         name
     }
 
-    /// A query with one option for each of its first questions, their numbers given.
-    fn query(self, opcode: u16, numbers: &[u64], lease: u32) -> Vec<u8> {
+    /// A query with one option for each of these names, their numbers given.
+    fn query(self, opcode: u16, names: &[Vec<u8>], numbers: &[u64], lease: u32) -> Vec<u8> {
         let count = numbers.len() as u8;
         let mut bytes = vec![0x5A, self.0, 1, 0, 0, count, 0, 0, 0, 0, 0, 1];
-        for question in 0..numbers.len() {
-            bytes.extend(self.name(question));
+        for name in &names[..numbers.len()] {
+            bytes.extend(name);
             bytes.extend([0, 12, 0, 1]);
         }
         bytes.extend([0, 0, 41, 5, 0xC0, 0, 0, 0, 0, 0, OPTION as u8 * count]);
@@ -140,71 +191,113 @@ impl Client {
     }
 }
 
-/// One call with the bytes lent to it: the table, the datagram and the reply buffer.
-#[derive(Clone)]
-struct Work {
-    call: Call,
-    from: Client,
+/// A datagram and the buffer for its reply, both lent to a call.
+#[derive(Clone, PartialEq)]
+struct Exchange {
     datagram: Vec<u8>,
-    table: Vec<u8>,
     reply: Vec<u8>,
 }
 
-impl Work {
-    /// The answer's number, and the length of its reply or how many entries it freed.
-    fn run(&mut self, side: &dyn Server) -> (u32, u32) {
-        if let Tick = self.call {
-            let ticked = side.tick(WEEK, NOW, &mut self.table);
-            return (ticked.number, ticked.freed);
-        }
-        self.serve(side, NOW)
+impl Exchange {
+    fn new(datagram: Vec<u8>) -> Exchange {
+        Exchange { datagram, reply: vec![0xEE; 1_472] }
     }
 
-    fn serve(&mut self, side: &dyn Server, second: u32) -> (u32, u32) {
+    fn serve(
+        &mut self,
+        side: &dyn Server,
+        from: Client,
+        second: u32,
+        table: &mut [u8],
+    ) -> (u32, u32) {
         let served = side.serve(
             WEEK,
             second,
             Client::HIGH,
-            self.from.low(),
-            self.from.port(),
+            from.low(),
+            from.port(),
             0x9E37_79B9_7F4A_7C15u64.wrapping_mul(second.into()),
             &self.datagram,
-            &mut self.table,
+            table,
             &mut self.reply,
         );
         (served.number, served.length)
     }
 
-    /// Serves a query while the table is filled; the numbers that the reply gives.
-    fn filled(&mut self, query: Vec<u8>, second: u32) -> Vec<u64> {
-        let questions = usize::from(query[5]);
-        self.datagram = query;
-        let (number, length) = self.serve(&Oracle, second);
-        assert_eq!(number, 0, "a datagram that fills the table is served");
-        self.granted(questions, length as usize)
-    }
-
-    /// The numbers in a reply's options, all of error 0.
-    fn granted(&self, questions: usize, length: usize) -> Vec<u64> {
+    /// The numbers in the reply's options, all of error 0. It is as long as its query.
+    fn granted(&self) -> Vec<u64> {
         let number = |option: &[u8]| {
             assert_eq!(option[OPTION_ERROR..OPTION_NUMBER], [0, 0], "an option has error 0");
             u64::from_be_bytes(option[OPTION_NUMBER..][..8].try_into().expect("8 bytes"))
         };
+        let (length, questions) = (self.datagram.len(), usize::from(self.datagram[5]));
         self.reply[length - OPTION * questions..length].chunks(OPTION).map(number).collect()
     }
 }
 
-/// A full table, filled by the oracle, and the call that is timed on it. Every client has 2 or
-/// 3 entries; the one who calls comes last and has 4 where it refreshes 4.
+/// What is timed as one call, with the bytes lent to it: a tick of the table, or datagrams one after
+/// another.
+#[derive(Clone)]
+struct Work {
+    call: Call,
+    from: Client,
+    table: Vec<u8>,
+    exchanges: Vec<Exchange>,
+}
+
+impl Work {
+    /// The answer's number, and the length of its reply or how many entries it freed; of several
+    /// answers the greatest number and the lengths together.
+    fn run(&mut self, side: &dyn Server) -> (u32, u32) {
+        if let Tick = self.call {
+            let ticked = side.tick(WEEK, NOW, &mut self.table);
+            return (ticked.number, ticked.freed);
+        }
+        let (from, table) = (self.from, &mut self.table);
+        match &mut self.exchanges[..] {
+            // Not by the loop below, which would be timed with it.
+            [only] => only.serve(side, from, NOW, table),
+            several => several.iter_mut().fold((0, 0), |so_far, exchange| {
+                let (number, length) = exchange.serve(side, from, NOW, table);
+                (number.max(so_far.0), length + so_far.1)
+            }),
+        }
+    }
+
+    /// Serves a query by the oracle; the numbers that the reply gives.
+    fn served(&mut self, query: Vec<u8>, second: u32) -> Vec<u64> {
+        let mut exchange = Exchange::new(query);
+        let answer = exchange.serve(&Oracle, self.from, second, &mut self.table);
+        assert_eq!(answer, (0, exchange.datagram.len() as u32), "a reply is as long as its query");
+        exchange.granted()
+    }
+
+    /// The caller's next question set up, answered by the number that it is given, and ended.
+    fn handshake(&self) -> Vec<Vec<u8>> {
+        let name = [self.from.name(self.call.held())];
+        let query = |opcode, number, lease| self.from.query(opcode, &name, &[number], lease);
+        let setup = query(SETUP, 0, LEASE);
+        let number = self.clone().served(setup.clone(), NOW)[0];
+        vec![setup, query(SETUP, number, LEASE), query(REFRESH, number, 0)]
+    }
+
+    /// Whether tables and replies are the same.
+    fn same_bytes(&self, other: &Work) -> bool {
+        self.table == other.table && self.exchanges == other.exchanges
+    }
+}
+
+/// A table filled by the oracle, and what is timed on it. Every client has 2 or 3 entries; the one
+/// who calls comes last and has 4 where it asks for 4. Every slot is taken but for one where a new
+/// question is set up.
 fn work(call: Call, slots: usize) -> Work {
-    let mine = call.questions().max(2);
     let mut holdings = Vec::new();
-    let mut left = slots - mine;
+    let mut left = slots - call.free() - call.held();
     while left > 0 {
         holdings.push(left.min(2 + holdings.len() % 2));
         left -= holdings.last().expect("just pushed");
     }
-    holdings.push(mine);
+    holdings.push(call.held());
 
     // Listed: who calls, the first two clients, and one who holds nothing.
     let last = holdings.len() - 1;
@@ -217,48 +310,44 @@ fn work(call: Call, slots: usize) -> Work {
         }
     }
 
-    let mut work = Work {
-        call,
-        from: Client(0),
-        datagram: Vec::new(),
-        table: vec![0; 313 + 320 * slots],
-        reply: vec![0; 1_472],
-    };
+    let table = vec![0; 313 + 320 * slots];
+    let mut work = Work { call, from: Client(0), table, exchanges: Vec::new() };
     assert_eq!(Oracle.make(WEEK, MADE, &mut work.table, &roster), 0, "the table is made");
-    let mut numbers = Vec::new();
+    let (mut names, mut numbers) = (Vec::new(), Vec::new());
     for (at, &held) in holdings.iter().enumerate() {
         work.from = Client(at as u8);
         let second = MADE + 2 * at as u32;
-        let setup = work.from.query(SETUP, &vec![0; held], LEASE);
-        numbers = work.filled(setup, second);
-        let response = work.from.query(SETUP, &numbers, LEASE);
-        work.filled(response, second);
+        names = call.names(work.from, held);
+        numbers = work.served(work.from.query(SETUP, &names, &vec![0; held], LEASE), second);
+        work.served(work.from.query(SETUP, &names, &numbers, LEASE), second);
     }
     assert_eq!(Oracle.tick(WEEK, NOW, &mut work.table).number, 0, "the clock moves on");
-    if let Setup = call {
+    if let Setup | LongSetup = call {
         // At age 0 what remains is the granted lease, which an archive from before that rule tells.
-        let refresh = work.from.query(REFRESH, &numbers, LEASE);
-        work.filled(refresh, NOW);
+        work.served(work.from.query(REFRESH, &names, &numbers, LEASE), NOW);
     }
 
+    let query = |opcode, numbers: &[u64], lease| work.from.query(opcode, &names, numbers, lease);
     let asked = &numbers[..call.questions()];
-    work.datagram = match call {
-        Setup => work.from.query(SETUP, &vec![0; asked.len()], LEASE),
+    let queries = match call {
+        Setup | LongSetup => vec![query(SETUP, &vec![0; asked.len()], LEASE)],
         // The granted lease, which every rule takes.
-        Response => work.from.query(SETUP, asked, LEASE),
-        _ => work.from.query(REFRESH, asked, 3_600),
+        Response => vec![query(SETUP, asked, LEASE)],
+        Handshake => work.handshake(),
+        _ => vec![query(REFRESH, asked, 3_600)],
     };
+    work.exchanges = queries.into_iter().map(Exchange::new).collect();
     match call {
         // The last option runs past the end by a byte.
         DamagedDatagram => {
-            let option = work.datagram.len() - OPTION;
-            work.datagram[option + OPTION_LENGTH] += 1;
+            let datagram = &mut work.exchanges[0].datagram;
+            let option = datagram.len() - OPTION;
+            datagram[option + OPTION_LENGTH] += 1;
         }
         // The last slot's last byte, a zero in every sound table.
         DamagedTable => *work.table.last_mut().expect("a table") = 1,
         _ => {}
     }
-    work.reply.fill(0xEE);
     work
 }
 
@@ -273,14 +362,15 @@ fn agreed(call: Call, slots: usize) -> Result<Work, String> {
     assert_eq!(answer.0, call.number(), "the number that the workload is for");
     match call {
         Tick => assert_eq!(answer.1, 0, "no entry runs out"),
-        Refresh(_) | Setup | Response => drop(left.granted(call.questions(), answer.1 as usize)),
         DamagedDatagram | DamagedTable => assert!(left.table == given.table, "refused"),
+        _ => left.exchanges.iter().for_each(|exchange| drop(exchange.granted())),
     }
+    assert!(call.free() == 0 || left.table == given.table, "what is set up is ended");
     for &(name, side) in SIDES {
         let mut work = given.clone();
         for _ in 0..2 {
             let same = work.run(side) == answer;
-            if !same || work.table != left.table || work.reply != left.reply {
+            if !same || !work.same_bytes(&left) {
                 let call = call.name();
                 return Err(format!("{call}, {slots} slots: {name} differs from the oracle"));
             }
@@ -340,11 +430,15 @@ fn run(timing: &Timing) -> Result<(), String> {
     println!(
         "ns per call: the least of {} batches of about {} us, sides in turn\n\
          buffers: the same for all sides, not cleared between calls\n\
-         tables: every slot taken, names of {} bytes, 2 or 3 entries an address (4 for who \
-         refreshes 4), 3 or 4 roster lines",
+         tables: every slot taken (one free where a question is set up and ended), names of {} \
+         bytes (all of {} where the row says so), 2 or 3 entries an address (4 for who asks for 4), \
+         3 or 4 roster lines\n\
+         {}: three calls, timed as one",
         timing.batches,
         timing.batch.as_micros(),
         Client(0).name(0).len(),
+        Client(0).long_name(0).len(),
+        Handshake.name(),
     );
     let mut all = Vec::new();
     for call in CALLS {
@@ -356,15 +450,15 @@ fn run(timing: &Timing) -> Result<(), String> {
     let names = || SIDES.iter().map(|(name, _)| name);
     let columns: String = names().map(|name| format!(" {name:>10}")).collect();
     let ratios: String = names().skip(1).map(|name| format!("  library/{name}")).collect();
-    println!("{:<22} {:>5}{columns}{ratios}", "workload", "slots");
+    println!("{:<26} {:>5}{columns}{ratios}", "workload", "slots");
     for (slots, agreed) in all {
         let mut work = agreed.clone();
         let least = timed(&mut work, timing);
         let columns: String = least.iter().map(|ns| format!(" {ns:>10.0}")).collect();
         let ratio = |(name, ns): (&&str, &f64)| format!("{:>1$.2}", least[0] / ns, name.len() + 10);
         let ratios: String = names().zip(&least).skip(1).map(ratio).collect();
-        println!("{:<22} {slots:>5}{columns}{ratios}", work.call.name());
-        if work.table != agreed.table || work.reply != agreed.reply {
+        println!("{:<26} {slots:>5}{columns}{ratios}", work.call.name());
+        if !work.same_bytes(&agreed) {
             return Err(format!("{}, {slots} slots: changed by timed calls", work.call.name()));
         }
     }

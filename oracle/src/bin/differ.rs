@@ -4,7 +4,8 @@
 //! differ [--calls N] [--seed S]   random lists; the linked library is tested,
 //!                                 or the oracle itself if none is linked
 //! differ --self ...               the oracle itself is tested, by the tally alone
-//! differ --variants ...           every wrong variant must be told apart
+//! differ --variants ...           every wrong variant must be told apart; the seed
+//!                                 picks the byte of FoldWrongAt
 //! differ --replay FILE            one list, in the form of src/script.rs
 //!
 //! --out FILE      where a list that failed is written too
@@ -105,7 +106,7 @@ fn compared(asked: Asked) -> Result<bool, String> {
 /// For each variant, the calls it took by oracle and tally, and by the tally alone.
 fn told_apart(asked: Asked) -> bool {
     println!("seed {}: wrong variants by oracle and tally, and by the tally alone", asked.seed);
-    let all = variants::all();
+    let all = variants::all(asked.seed);
     let mut missed = 0;
     for (name, server) in &all {
         let server = server.as_ref();

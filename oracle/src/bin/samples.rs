@@ -916,7 +916,8 @@ fn count_mismatch(s: &mut Script) {
     s.dump();
 }
 
-/// Names by any case, stored folded; other bytes as they are; the root and the longest name.
+/// Names by any case, stored folded; other bytes as they are; the root and the longest name; every
+/// byte value.
 fn names(s: &mut Script) {
     s.make((130, 0), 8, &[listed(PANEL, 0, 8)]);
     let told = s.ask((130, 0), PANEL, 7, &[setup("MiXed.EXAMPLE", 100)]);
@@ -937,6 +938,21 @@ fn names(s: &mut Script) {
     let (root, longest) = (name(&[]), long_name(255, b'X'));
     let told = s.ask((130, 6), PANEL, 12, &[of(&root), of(&longest), of(&long_name(255, b'x'))]);
     assert_eq!(told, [granted(12, 100), granted(13, 100), granted(13, 100)]);
+    s.dump();
+    // Every byte value: those without bit 0x20 in one name, A to Z among them, and at the same places
+    // of another those with it, a to z among them. Asked again, their letters are in the other case.
+    s.make((130, 10), 2, &[]);
+    let wire = |values: &[u8]| name(&values.chunks(63).collect::<Vec<_>>());
+    let one: Vec<u8> = (0..=255).filter(|byte| byte & 0x20 == 0).collect();
+    let other: Vec<u8> = one.iter().map(|byte| byte | 0x20).collect();
+    let (small, capitals) = (one.to_ascii_lowercase(), other.to_ascii_uppercase());
+    for sent in [[&one, &other], [&small, &capitals]] {
+        let told = s.ask((130, 10), PANEL, 7, &sent.map(|values| of(&wire(values))));
+        assert_eq!(told, [granted(7, 100), granted(8, 100)]);
+    }
+    for (slot, stored) in [&small, &other].into_iter().enumerate() {
+        assert_eq!(s.table()[313 + 320 * slot + 40..][..132], wire(stored));
+    }
     s.dump();
 }
 

@@ -71,6 +71,18 @@ fn all_names(random: &mut Random) -> Vec<Vec<u8>> {
     ]
 }
 
+/// Two names of one length that hold every byte value between them, in any order. At each place they
+/// differ in bit 0x20 alone, by which letters differ in case and other bytes do not fold.
+fn names_of_every_value(random: &mut Random) -> [Vec<u8>; 2] {
+    let halves: Vec<u8> = (0..=255).filter(|byte| byte & 0x20 == 0).collect();
+    let one: Vec<u8> = some(random, &halves, halves.len())
+        .into_iter()
+        .map(|byte| if random.percent(50) { byte } else { byte ^ 0x20 })
+        .collect();
+    let other = one.iter().map(|byte| byte ^ 0x20).collect();
+    [one, other].map(|values: Vec<u8>| name(&values.chunks(63).collect::<Vec<_>>()))
+}
+
 fn all_addresses() -> Vec<[u8; 16]> {
     let mut mapped = [0; 16];
     mapped[10..].copy_from_slice(&[0xFF, 0xFF, 192, 0, 2, 1]);
@@ -125,12 +137,14 @@ impl World {
             _ if filling => 20,
             _ => 1 + random.below(20),
         };
-        let names = all_names(random);
+        let all_names = all_names(random);
         let names_taken = 2 + random.below(7) + slots / 8;
+        let mut names = some(random, &all_names, names_taken);
+        names.extend(names_of_every_value(random));
         World {
             addresses: some(random, &addresses, addresses_taken),
             ports: some(random, &[5_353, 5_354, 0, 0xFFFF, 0xE914], 3),
-            names: some(random, &names, names_taken),
+            names,
             types: some(random, &[12, 1, 255, 0x0C00], 2),
             classes: some(random, &[1, 255, 0x8001], 2),
             slots,
@@ -295,6 +309,19 @@ pub fn other_case(random: &mut Random, name: &[u8]) -> Vec<u8> {
 #[cfg(test)]
 mod tests {
     use super::*;
+    use crate::values::Values;
+
+    #[test]
+    fn two_names_hold_every_value() {
+        let mut random = Random::new(1);
+        for _ in 0..100 {
+            let names = names_of_every_value(&mut random);
+            assert_eq!(names.each_ref().map(Vec::len), [132, 132]);
+            let mut values = Values::default();
+            names.iter().for_each(|name| values.add(name, name.len()));
+            assert!(values.are_all());
+        }
+    }
 
     #[test]
     fn names_have_their_lengths() {

@@ -118,6 +118,17 @@ fn options_of_code_1(record: &[u8]) -> Result<Vec<Vec<u8>>, u32> {
 }
 
 impl Datagram {
+    /// The questions' names as they were sent, in any case.
+    pub fn names_sent(&self) -> Vec<&[u8]> {
+        let mut left = &self.question_bytes[..];
+        let name = |question: &Question| {
+            let (name, fixed) = left.split_at(question.name.len());
+            left = &fixed[4..];
+            name
+        };
+        self.questions.iter().map(name).collect()
+    }
+
     /// How many options of code 1 there are.
     pub fn option_count(&self) -> usize {
         self.options.len()

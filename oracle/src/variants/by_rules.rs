@@ -18,6 +18,8 @@ macro_rules! wrong {
         enum Wrong {
             /// A fault goes unseen.
             BlindTo(Fault),
+            /// A byte that does not fold comes out as another, and all others as they should.
+            FoldWrongAt(u8),
             $($(#[$said])* $name,)*
         }
 
@@ -82,6 +84,10 @@ wrong! {
     FoldBeforeA
     FoldAfterZ
     FoldNotZ
+    /// A name is stored as it was sent.
+    FoldWhenComparingOnly
+    /// A name is compared as it was sent.
+    FoldWhenStoringOnly
     /// The byte before a name's final zero is not compared.
     NameButForItsLastByte
     NameFirst64Bytes
@@ -243,9 +249,11 @@ impl Rules for Bent {
         }
     }
 
+    /// As a name is stored.
     fn fold(byte: u8) -> u8 {
         match (now(), byte) {
-            (FoldNothing, _) => byte,
+            (FoldNothing | FoldWhenComparingOnly, _) => byte,
+            (FoldWrongAt(wrong), _) if byte == wrong => byte ^ 0x20,
             (FoldPast127, 0xC0..=0xD6 | 0xD8..=0xDE) => byte + 0x20,
             (FoldBeforeA, b'@') => b'`',
             (FoldAfterZ, b'[') => b'{',
@@ -256,7 +264,12 @@ impl Rules for Bent {
 
     fn same_name(stored: &[u8], received: &[u8]) -> bool {
         let mut pairs = stored.iter().zip(received);
-        let same = |(&stored, &byte): (&u8, &u8)| stored == Self::fold(byte);
+        let folded = |byte| match now() {
+            FoldWhenComparingOnly => Law::fold(byte),
+            FoldWhenStoringOnly => byte,
+            _ => Self::fold(byte),
+        };
+        let same = |(&stored, &byte): (&u8, &u8)| stored == folded(byte);
         stored.len() == received.len()
             && match now() {
                 NameButForItsLastByte => pairs.rev().skip(2).all(same),
@@ -492,8 +505,17 @@ impl Server for Wrong {
     }
 }
 
+fn named(wrong: Wrong) -> Named {
+    (format!("{wrong:?}"), Box::new(wrong))
+}
+
 pub fn all() -> Vec<Named> {
     let blind = Fault::ALL.iter().map(|&fault| BlindTo(fault));
-    let named = |wrong: Wrong| -> Named { (format!("{wrong:?}"), Box::new(wrong)) };
     WRONG.iter().copied().chain(blind).map(named).collect()
+}
+
+/// The variant whose fold is wrong at this byte alone, one that does not fold.
+pub fn fold_wrong_at(byte: u8) -> Named {
+    assert_eq!(Law::fold(byte), byte, "a byte that does not fold");
+    named(FoldWrongAt(byte))
 }
