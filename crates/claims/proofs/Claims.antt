@@ -102,7 +102,7 @@ pub record Claims (s : Server) : Type 0 where
   -- a call's numbers and bytes are settled, and so are the public contracts
   pub calls : CallsExactly s
   pub contracts : ContractsExactly
-  -- twenty-three wrong servers break a claim each
+  -- twenty-six wrong servers break a claim each
   pub refuted : Refuted
   -- one of them passes what `LiveAge` says by the places that a table holds
   pub ownPlaces : OwnPlaces

@@ -48,9 +48,12 @@ as-many-by p b y g = ap (λ (t : Table). count (holdings t) p) (read-stored b (g
 as-many : (b : List ℕ) (y : _) (g : Agrees b y) → count (holdings (readTable b)) any ≡ count (y .holdings) any
 as-many = as-many-by any
 
--- a setup from address 9, port 1
+-- a setup from address 9, port 1, for a name of one byte; and for a.
+abbrev strangersSetup : ℕ → ServeCall
+strangersSetup byte = from 9 1 (askingByte byte 0 3600)
+
 abbrev stranger : ServeCall
-stranger = from 9 1 (asking 0 3600)
+stranger = strangersSetup 97
 
 stranger-in-range : ServeInRange stranger
 unfolding every
@@ -421,19 +424,15 @@ keeps-sample r = let z : _≡_ {A = ℕ} 999 1000 = ap (λ (c : Clock). c .place
 
 -- ---- THE FOLD
 
--- a setup for a name of one byte
-abbrev askingOf : ℕ → ServeCall
-askingOf byte = from 9 1 (askingByte byte 0 3600)
-
--- of the entries that it leaves as many have a name as of the tally's
+-- after a stranger's setup as many of the table's entries have a name as of the tally's
 names-after : (s : Server) → Demand3 s → (byte : ℕ) → areBytes (askingByte byte 0 3600) → 0 ≡ s .make (makeAt 0 0 []) (tableBuffer 1) .number
     → (name : List ℕ)
-    → count (holdings (readTable (s .serve (askingOf byte) (freshBytes s 1 []) (replyBuffer (askingOf byte)) .table))) (λ h. same (h .name) name)
-    ≡ count (tallyAfter (length (tableBuffer 1)) (beginTally (length (tableBuffer 1)) (makeAt 0 0 [])) (serving (askingOf byte)) .holdings) (λ h. same (h .name) name)
+    → count (holdings (readTable (s .serve (strangersSetup byte) (freshBytes s 1 []) (replyBuffer (strangersSetup byte)) .table))) (λ h. same (h .name) name)
+    ≡ count (tallyAfter (length (tableBuffer 1)) (beginTally (length (tableBuffer 1)) (makeAt 0 0 [])) (serving (strangersSetup byte)) .holdings) (λ h. same (h .name) name)
 unfolding every
 names-after s d byte bytes made name =
     as-many-by (λ h. same (h .name) name) _ _
-    (along-calls s 1 [] d refl made (serving (askingOf byte) ∷ []) (from-in-range 9 1 (askingByte byte 0 3600) (lit< tt) (lit< tt) bytes, tt) .0 .agrees)
+    (along-calls s 1 [] d refl made (serving (strangersSetup byte) ∷ []) (from-in-range 9 1 (askingByte byte 0 3600) (lit< tt) (lit< tt) bytes, tt) .0 .agrees)
 
 -- the tally has z for Z
 z-unfolded : Demand3 zUnfolded → ⊥
@@ -530,12 +529,12 @@ pub serve-right : (c : ServeCall) (b given : List ℕ) → serverOf right .serve
 unfolding serve
 serve-right c b given = serve-by (serveRefusal c b) c b given
 
--- through the table that the rule gives, a question is read as the model's
 through : (s : List ℕ) → Bytes s → map (λ b. getD foldEntries b 0) s ≡ map fold s
 through [] h = refl
 through (x ∷ s) h =
     ap (λ (y : ℕ). y ∷ map (λ b. getD foldEntries b 0) s) (getD-upTo 256 fold x 0 (h 0)) ∙ ap (λ (l : List ℕ). fold x ∷ l) (through s (λ i. h (suc i)))
 
+-- through the table that the rule gives, a question of a datagram of bytes is read as the model's
 pub through-right : (d : List ℕ) (i : ℕ) → Bytes d → readThrough foldEntries d i ≡ question d i
 unfolding questionAt
 through-right d i h =

@@ -27,7 +27,7 @@ use Rattle.claims.specs.Events.{Event, made, ticked, served, callOf, tab
 use Rattle.claims.specs.Changes.{doneOptions}
 use Rattle.claims.specs.LiveAge.{stepIn, stepsAlong, Stamped, ageIn, Grows}
 use Rattle.claims.specs.AnySound.{tallyOf}
-use Rattle.claims.specs.Impostors.{Parts, tableWith, tickWith, serveWith, onBack, moveBack, setTo, keepsAlways, OwnPlaces}
+use Rattle.claims.specs.Impostors.{Parts, movesBy, tableWith, tickWith, serveWith, onBack, moveBack, setTo, keepsAlways, OwnPlaces}
 use Rattle.claims.proofs.AcceptedCalls.{tick-accepted, serve-accepted}
 use Rattle.claims.proofs.Refusals.{refusals}
 use Rattle.claims.proofs.Demand3.CallSteps.{kept-stored, kept-step}
@@ -127,7 +127,7 @@ own-place c to h = go (step (c .place) to)
     go (negsuc n) = h
 
 abbrev parts : Parts
-parts = record { moves = λ t place. freeRunOut (withClock t (moveBack setTo (t .clock) place)); reads = question; option = serveOption }
+parts = movesBy (λ t place. freeRunOut (withClock t (moveBack setTo (t .clock) place)))
 
 moves-placed : (t : Table) (to : ℕ) → parts .moves t to ≡ withPlace (moveBack setTo (t .clock) to .place) (movedOn t to)
 unfolding movedOn

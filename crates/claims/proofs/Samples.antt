@@ -27,7 +27,7 @@ span-samples-hold =
 pub name-samples-hold : NameSamples question
 unfolding model-definitions
 name-samples-hold =
-    (refl, refl, (refl, refl, (refl, refl, (refl, refl, (refl, refl, (refl, refl, (refl, refl, tt)))))))
+    (refl, refl, (refl, refl, (refl, refl, (refl, refl, (refl, refl, (refl, refl, (refl, refl, (refl, refl, (refl, refl, (refl, refl, (refl, refl, (refl, refl, (refl, refl, (refl, refl, (refl, refl, tt)))))))))))))))
 
 pub sound-samples-hold : SoundSamples
 unfolding model-definitions

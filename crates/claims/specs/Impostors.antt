@@ -59,9 +59,18 @@ pub record Parts : Type 0 where
   pub reads : List ℕ → ℕ → Question
   pub option : Does
 
--- the model's parts
+-- the model's parts, and those with one of their own
 abbrev pub right : Parts
 right = record { moves = movedOn; reads = question; option = serveOption }
+
+abbrev pub movesBy : (Table → ℕ → Table) → Parts
+movesBy f = record { moves = f; reads = right .reads; option = right .option }
+
+abbrev pub readsBy : (List ℕ → ℕ → Question) → Parts
+readsBy f = record { moves = right .moves; reads = f; option = right .option }
+
+abbrev pub optionBy : Does → Parts
+optionBy f = record { moves = right .moves; reads = right .reads; option = f }
 
 module _ (p : Parts) where
   unfoldable pub tableWith : ServeCall → Table → ℕ → Table
@@ -97,13 +106,13 @@ module _ (p : Parts) where
   serverOf = withServe (withTick model (λ c b. tickWith (tickRefusal c b) c b)) (λ c b lent. serveWith (serveRefusal c b) c b lent)
 
 abbrev pub withOption : Does → Server
-withOption f = serverOf (record { moves = movedOn; reads = question; option = f })
+withOption f = serverOf (optionBy f)
 
 abbrev pub withMove : (Table → ℕ → Table) → Server
-withMove f = serverOf (record { moves = f; reads = question; option = serveOption })
+withMove f = serverOf (movesBy f)
 
 abbrev pub withReader : (List ℕ → ℕ → Question) → Server
-withReader f = serverOf (record { moves = movedOn; reads = f; option = serveOption })
+withReader f = serverOf (readsBy f)
 
 -- DOCUMENT 01'S IMPOSTORS
 

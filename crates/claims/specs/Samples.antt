@@ -1,6 +1,6 @@
 -- Claim 6: document 01's samples W1 to W10, and two steps beside them, one table under one statement, of the definitions that contracts and
 -- claims cite; and samples of the clock moved, of a response's span and of names compared, one table each under one statement. Assumes nothing.
-use Prim.Native.Nat.{ℕ, _+_, _%_, _^_}
+use Prim.Native.Nat.{ℕ, _+_, _%_}
 use mathlib.Core.Path.{_≡_}
 use mathlib.Core.Bool.{Bool, true, false}
 use mathlib.Core.List.{List, [], _∷_, _++_}
@@ -179,19 +179,35 @@ against stored sent same = record { stored = stored; sent = sent; same = same }
 abbrev pub oneLabel : List ℕ → List ℕ
 oneLabel s = length s ∷ (s ++ (0 ∷ []))
 
--- 63 letters, as many as a label may have, from a first one on through the alphabet
-abbrev pub letters : ℕ → List ℕ
-letters first = oneLabel (upTo 63 (λ i. first + i % 26))
+-- n bytes, each one more than the last
+abbrev pub run : ℕ → ℕ → List ℕ
+run first n = upTo n (λ i. first + i)
+
+-- 63 letters, as many as a label may have, from A or a on through the alphabet
+abbrev pub alphabet : ℕ → List ℕ
+alphabet first = upTo 63 (λ i. first + i % 26)
+
+-- a name of the 32 bytes from one on, stored as it is sent
+abbrev pub unfolded : ℕ → NameSample
+unfolded first = against (oneLabel (run first 32)) (oneLabel (run first 32)) true
 
 abbrev pub nameSamples : List NameSample
 nameSamples =
     against (oneLabel (0x40 ∷ 97 ∷ 122 ∷ 0x5B ∷ [])) (oneLabel (0x40 ∷ 65 ∷ 90 ∷ 0x5B ∷ [])) true  -- @az[ against @AZ[
     ∷ against (oneLabel (0x40 ∷ 97 ∷ 122 ∷ 0x5B ∷ [])) (oneLabel (0x60 ∷ 65 ∷ 90 ∷ 0x7B ∷ [])) false  -- and against `AZ{
-    ∷ against (oneLabel (0xE1 ∷ [])) (oneLabel (0xC1 ∷ [])) false  -- over 127 no two agree
+    ∷ against (oneLabel (0xE1 ∷ [])) (oneLabel (0xC1 ∷ [])) false  -- 0xC1 is no capital of 0xE1
     ∷ against (oneLabel (0xC1 ∷ [])) (oneLabel (0xE1 ∷ [])) false
     ∷ against (oneLabel (0x7A ∷ [])) (oneLabel (0x5A ∷ [])) true  -- z against Z
     ∷ against (0 ∷ []) (0 ∷ []) true  -- the root
-    ∷ against (letters 97) (letters 65) true  -- every letter, in a label of 63
+    ∷ against (oneLabel (alphabet 97)) (oneLabel (alphabet 65)) true  -- 63 capitals against their small letters
+    ∷ unfolded 0  -- all 256 bytes, 32 to a name: A to Z are folded, the others are as they are
+    ∷ unfolded 32
+    ∷ against (oneLabel (64 ∷ (run 97 26 ++ run 91 5))) (oneLabel (run 64 32)) true
+    ∷ unfolded 96
+    ∷ unfolded 128
+    ∷ unfolded 160
+    ∷ unfolded 192
+    ∷ unfolded 224
     ∷ []
 
 -- the datagram that asks for a name: a header of which nothing is read here, the name, type PTR, class IN

@@ -1,21 +1,18 @@
 -- Bytes that are compared or copied folded: a part of the folded list. Assumes nothing.
-use Prim.Native.Nat.{ℕ, zero, suc, _+_, _-_, _≤_, _<_}
-use native.Mathlib.Nat.{zero-add, add-zero}
+use Prim.Native.Nat.{ℕ, zero, suc, _+_, _<_}
 use native.Mathlib.Omega.{arith}
 use mathlib.Core.Path.{_≡_, refl, sym, ap, _∙_}
-use mathlib.Core.Bool.{Bool, true, false, _&&_, and-true, and-false}
+use mathlib.Core.Bool.{false}
 use mathlib.Core.List.{List, [], _∷_, map}
 use mathlib.Core.Logic.{_≢_}
 use lib.ListN.{length, getD, take, drop, set}
-use lib.Dec.{eqb}
-use lib.Seq.{drop-cons}
-use borrow.Author.Tests.{eq-eqb, ne-eqb}
 use Rattle.model.specs.Lists.{same}
-use Rattle.model.specs.Numbers.{part, splice}
+use Rattle.model.specs.Numbers.{bigEndian, Bytes, part, splice}
 use Rattle.model.specs.Names.{fold}
-use Rattle.model.proofs.ListLaws.{and-both, length-map, getD-map}
-use Rattle.model.proofs.NumberLaws.{copy-step}
-use Rattle.octets.proofs.Laws.{both}
+use Rattle.model.proofs.ListLaws.{length-map, getD-map}
+use Rattle.model.proofs.NumberLaws.{big-one, copy-step}
+use Rattle.model.proofs.NameLaws.{bytes-fold}
+use Rattle.octets.proofs.Laws.{step, stop}
 
 module _ (f : ℕ → ℕ) where
   map-take : (k : ℕ) (s : List ℕ) → map f (take k s) ≡ take k (map f s)
@@ -28,46 +25,27 @@ module _ (f : ℕ → ℕ) where
   map-drop (suc at) [] = refl
   map-drop (suc at) (x ∷ s) = map-drop at s
 
-  pub map-part : (at k : ℕ) (s : List ℕ) → map f (part at k s) ≡ part at k (map f s)
+  map-part : (at k : ℕ) (s : List ℕ) → map f (part at k s) ≡ part at k (map f s)
   unfolding part
   map-part at k s = map-take k (drop at s) ∙ ap (take k) (map-drop at s)
 
--- n bytes of t from index a, and of d from index b
-module _ (t d : List ℕ) (a b n : ℕ) (p : a + n ≤ length t) (q : b + n ≤ length d) where
-  -- k of them from index o are the same, those of d folded
-  abbrev sameBytes : ℕ → ℕ → Bool
-  sameBytes o k = same (part (a + o) k t) (map fold (part (b + o) k d))
-
-  same-both : (o m j k : ℕ) → j + k ≡ m → o + m ≤ n → sameBytes o j && sameBytes (o + j) k ≡ sameBytes o m
-  same-both o m j k e h =
-      let u : a + (o + j) ≡ a + o + j = omega arith in
-      let v : b + (o + j) ≡ b + o + j = omega arith in
-      let l : length (map fold d) ≡ length d = length-map fold d in
-      simp (u, v, map-part fold) (rw (← e) (sym (both t (map fold d) (a + o) (b + o) j k (omega arith) (omega arith))))
-
-  -- byte i
-  same-one : (i : ℕ) → i < n → sameBytes i 1 ≡ eqb (getD t (a + i) 0) (fold (getD d (b + i) 0))
-  unfolding same part
-  same-one i h =
-      let l : a + i < length t = omega arith in
-      let m : b + i < length d = omega arith in
-      rw (drop-cons t (a + i) 0 l, drop-cons d (b + i) 0 m) (and-true (eqb (getD t (a + i) 0) (fold (getD d (b + i) 0))))
+-- bytes of t from index a, and of d from index b, these folded: the laws of a comparison of bytes, over the folded list
+module _ (t d : List ℕ) (a b : ℕ) where
+  folded-at : (i : ℕ) → b + i < length d → bigEndian (map fold d) (b + i) 1 ≡ fold (getD d (b + i) 0)
+  folded-at i h = big-one (map fold d) (b + i) ∙ getD-map fold d (b + i) 0 0 h
 
   -- the first i agree, and byte i
-  pub same-next : (i : ℕ) → i < n → same (part a i t) (map fold (part b i d)) ≡ true → getD t (a + i) 0 ≡ fold (getD d (b + i) 0)
-      → same (part a (i + 1) t) (map fold (part b (i + 1) d)) ≡ true
-  same-next i h s e =
-      let f : sameBytes 0 i ≡ true = simp add-zero s in
-      let g : sameBytes (0 + i) 1 ≡ true = rw zero-add (same-one i h ∙ eq-eqb _ _ e) in
-      simp add-zero at (sym (same-both 0 (i + 1) i 1 refl (omega arith)) ∙ and-both (sameBytes 0 i) (sameBytes (0 + i) 1) f g)
+  pub same-next : (i : ℕ) → Bytes t → Bytes d → part a i t ≡ map fold (part b i d) → a + i < length t → b + i < length d
+      → getD t (a + i) 0 ≡ fold (getD d (b + i) 0) → part a (i + 1) t ≡ map fold (part b (i + 1) d)
+  same-next i p q s h l e =
+      let m : length (map fold d) ≡ length d = length-map fold d in
+      rw (map-part fold b (i + 1) d)
+      (step t (map fold d) a b i 1 p (bytes-fold d q) (s ∙ map-part fold b i d) (omega arith) (omega arith) (big-one t (a + i) ∙ e ∙ sym (folded-at i l)))
 
   -- byte i differs
-  pub same-differs : (i : ℕ) → i < n → getD t (a + i) 0 ≢ fold (getD d (b + i) 0) → same (part a n t) (map fold (part b n d)) ≡ false
-  same-differs i h e =
-      let g : sameBytes i 1 ≡ false = same-one i h ∙ ne-eqb _ _ e in
-      let r : sameBytes (0 + i) (n - i) ≡ false = rw (zero-add, ← same-both i (n - i) 1 (n - i - 1) (omega arith) (omega arith), g) refl in
-      let w : sameBytes 0 n ≡ false = rw (← same-both 0 n i (n - i) (omega arith) (omega arith), r) (and-false (sameBytes 0 i)) in
-      simp add-zero at w
+  pub same-differs : (n i : ℕ) → i < n → b + i < length d → getD t (a + i) 0 ≢ fold (getD d (b + i) 0) → same (part a n t) (map fold (part b n d)) ≡ false
+  same-differs n i h l e =
+      rw (map-part fold b n d) (stop t (map fold d) a b n i 1 (omega arith) (λ z. e (sym (big-one t (a + i)) ∙ z ∙ folded-at i l)))
 
 -- a turn of a copy
 pub fold-step : (at from i : ℕ) (d s : List ℕ) → from + i < length d → at + i < length s

@@ -1,4 +1,4 @@
--- The table folds right, by one computed test; and A to Z are what it does not leave alone. Assumes nothing.
+-- The table folds right, by one computed test; and A to Z are what the fold does not leave alone. Assumes nothing.
 use Prim.Native.Nat.{ℕ, _+_, _<_}
 use native.Mathlib.Omega.{arith}
 use mathlib.Core.Path.{_≡_, refl}
@@ -8,11 +8,11 @@ use lib.Dec.{eqb}
 use borrow.Author.Tests.{eqb-true, eq-eqb, ne-eqb}
 use Rattle.model.specs.Names.{upper, fold}
 use Rattle.names.specs.FoldTable.{foldTable, FoldsRight}
-use Rattle.names.proofs.TableLaws.{everyEntry, entry-at}
+use Rattle.names.proofs.ConstantTables.{passes, passes-at}
 
--- the one computed test: each entry is its index folded
-entries-fold : everyEntry (λ b x. eqb x (fold b)) 0 foldTable ≡ true
-unfolding everyEntry foldTable fold
+-- the one computed test: each element is its index folded
+entries-fold : passes (λ b x. eqb x (fold b)) 0 foldTable ≡ true
+unfolding passes foldTable fold
 entries-fold = refl
 
 table-size : length foldTable ≡ 256
@@ -21,15 +21,15 @@ table-size = refl
 
 -- the rule at any byte
 pub fold-at : (b : ℕ) → b < 256 → getD foldTable b 0 ≡ fold b
-fold-at b h = eqb-true _ _ (entry-at (λ b x. eqb x (fold b)) 0 foldTable entries-fold b (rw table-size h))
+fold-at b h = eqb-true _ _ (passes-at (λ b x. eqb x (fold b)) 0 foldTable entries-fold b (rw table-size h))
 
 pub folds-right : FoldsRight foldTable
 folds-right = (table-size, fold-at)
 
--- A to Z are the bytes that the table does not leave alone
-pub upper-moves : (b : ℕ) → upper b ≡ not (eqb (fold b) b)
+-- A to Z are what the fold does not leave alone
+pub upper-folds : (b : ℕ) → upper b ≡ not (eqb (fold b) b)
 unfolding fold
-upper-moves b = go (upper b)
+upper-folds b = go (upper b)
   where
     go : (u : Bool) → u ≡ not (eqb (cond u (b + 32) b) b)
     go true = rw (ne-eqb (b + 32) b (λ e. omega arith))

@@ -1,4 +1,4 @@
+pub mod ConstantTables
 pub mod FoldLaws
 pub mod FoldTable
 pub mod NameLaws
-pub mod TableLaws

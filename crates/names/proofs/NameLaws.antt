@@ -18,7 +18,7 @@ use Rattle.model.proofs.ListLaws.{iff, every-append, part-add}
 use Rattle.model.proofs.NameLaws.{below-upper, fold-same}
 use Rattle.layout.proofs.ShapeLaws.{part-head}
 use Rattle.names.specs.Labels.{labelled, lowerCase}
-use Rattle.names.proofs.FoldTable.{upper-moves}
+use Rattle.names.proofs.FoldTable.{upper-folds}
 use Rattle.octets.proofs.Cover.{bit-none}
 
 -- THE TWO TESTS are the name's
@@ -47,7 +47,7 @@ name-is zero (b ∷ s) = go (eqb b 0) (ltb b 64) refl refl (name-is b s)
     go true v e f r = let z : b ≡ 0 = eqb-true b 0 e in rw (stays b (omega arith)) (none-left s)
     go false true e f r = rw (stays b (omega (arith, ltb-true b 64 f))) r
     go false false e f r = refl
-name-is (suc k) (b ∷ s) = rw (upper-moves b, Bool·not-not (eqb (fold b) b), name-is k s) (turned (eqb (fold b) b) (labelled k s) (lowerCase s))
+name-is (suc k) (b ∷ s) = rw (upper-folds b, Bool·not-not (eqb (fold b) b), name-is k s) (turned (eqb (fold b) b) (labelled k s) (lowerCase s))
 
 -- LABELS
 

@@ -279,7 +279,7 @@ pub const FOLD: [u8; 256] = [
     255,
 ];
 
-// A byte folded, by a copy of the table. A caller makes one copy for each name: a constant that is indexed is copied anew at each look-up.
+// A byte folded, by a copy of the table. A caller makes one copy for all bytes of a name: a constant that is indexed is copied at each look-up.
 pub fn folded(table: &[u8; 256], b: u8) -> u8
     requires { ⌜ now table ≡ foldTable ⌝ }
     ensures { λ r. ⌜ r ≡ fold b ⌝ }
