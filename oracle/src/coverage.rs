@@ -276,11 +276,20 @@ mod tests {
 
     #[test]
     fn a_value_that_was_missed_is_named() {
-        let met =
+        let mut met =
             Coverage { stored: values_but(&[9, 0xC1]), compared: values_but(&[255]), ..met() };
+        for mark in [Mark::AllValuesStored, Mark::AllValuesCompared] {
+            met.marks[mark as usize] = 0;
+        }
         assert_eq!(
             met.missing(),
-            ["value 09 in names stored", "value c1 in names stored", "value ff in names compared"]
+            [
+                "all 256 values in names stored",
+                "all 256 values in names compared",
+                "value 09 in names stored",
+                "value c1 in names stored",
+                "value ff in names compared",
+            ]
         );
     }
 

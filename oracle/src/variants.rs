@@ -6,7 +6,7 @@
 mod around;
 mod by_rules;
 
-pub use by_rules::fold_wrong_at;
+pub use by_rules::folds_wrong_at;
 
 use crate::name;
 use crate::random::Random;
@@ -14,10 +14,10 @@ use crate::server::Server;
 
 pub type Named = (String, Box<dyn Server>);
 
-/// Every wrong variant with its name. The seed picks the byte at which one of them folds wrongly.
+/// Every wrong variant with its name. The seed picks the bytes at which two of them fold wrongly.
 pub fn all(seed: u64) -> Vec<Named> {
     let mut all = by_rules::all();
-    all.push(fold_wrong_at(picked(seed)));
+    all.extend(folds_wrong_at(picked(seed)));
     all.extend(around::all());
     all
 }
@@ -27,9 +27,11 @@ pub fn unfolded() -> Vec<u8> {
     (0..=255).filter(|&byte| name::fold(byte) == byte).collect()
 }
 
-/// One of them, the same for the same seed.
-fn picked(seed: u64) -> u8 {
-    *Random::new(seed).pick(&unfolded())
+/// Two of them, not the same one, and the same two for the same seed.
+fn picked(seed: u64) -> [u8; 2] {
+    let (mut random, mut left) = (Random::new(seed), unfolded());
+    let mut pick = || left.swap_remove(random.below(left.len()));
+    [pick(), pick()]
 }
 
 #[cfg(test)]
@@ -37,11 +39,15 @@ mod tests {
     use super::*;
 
     #[test]
-    fn any_byte_that_does_not_fold_is_picked() {
-        let mut all: Vec<u8> = (0..10_000).map(picked).collect();
-        all.sort();
-        all.dedup();
-        assert_eq!(all, unfolded());
-        assert_eq!(all, [(0..b'A').collect::<Vec<u8>>(), (b'['..=255).collect()].concat());
+    fn any_two_bytes_that_do_not_fold_are_picked() {
+        let pairs: Vec<[u8; 2]> = (0..10_000).map(picked).collect();
+        assert!(pairs.iter().all(|[one, other]| one != other));
+        for at in 0..2 {
+            let mut all: Vec<u8> = pairs.iter().map(|pair| pair[at]).collect();
+            all.sort();
+            all.dedup();
+            assert_eq!(all, unfolded());
+            assert_eq!(all, [(0..b'A').collect::<Vec<u8>>(), (b'['..=255).collect()].concat());
+        }
     }
 }

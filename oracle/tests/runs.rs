@@ -23,14 +23,15 @@ fn every_variant_is_told_apart() {
     }
 }
 
-/// Whichever byte the seed picks.
+/// Whichever bytes the seed picks.
 #[test]
 fn a_fold_wrong_at_any_byte_is_told_apart() {
     for byte in variants::unfolded() {
-        let (name, variant) = variants::fold_wrong_at(byte);
-        for reference in [&Oracle as &dyn Server, &*variant] {
-            let (_, failure) = random_lists(reference, &*variant, SEED, 100_000, None);
-            assert!(failure.is_some(), "{name}");
+        for (name, variant) in variants::folds_wrong_at([byte; 2]) {
+            for reference in [&Oracle as &dyn Server, &*variant] {
+                let (_, failure) = random_lists(reference, &*variant, SEED, 100_000, None);
+                assert!(failure.is_some(), "{name}");
+            }
         }
     }
 }

@@ -363,7 +363,11 @@ fn agreed(call: Call, slots: usize) -> Result<Work, String> {
     match call {
         Tick => assert_eq!(answer.1, 0, "no entry runs out"),
         DamagedDatagram | DamagedTable => assert!(left.table == given.table, "refused"),
-        _ => left.exchanges.iter().for_each(|exchange| drop(exchange.granted())),
+        _ => {
+            let sent: usize = left.exchanges.iter().map(|exchange| exchange.datagram.len()).sum();
+            assert_eq!(answer.1 as usize, sent, "replies are as long as their queries");
+            left.exchanges.iter().for_each(|exchange| drop(exchange.granted()));
+        }
     }
     assert!(call.free() == 0 || left.table == given.table, "what is set up is ended");
     for &(name, side) in SIDES {

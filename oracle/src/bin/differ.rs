@@ -4,8 +4,8 @@
 //! differ [--calls N] [--seed S]   random lists; the linked library is tested,
 //!                                 or the oracle itself if none is linked
 //! differ --self ...               the oracle itself is tested, by the tally alone
-//! differ --variants ...           every wrong variant must be told apart; the seed
-//!                                 picks the byte of FoldWrongAt
+//! differ --variants ...           every wrong variant must be told apart; the seed picks
+//!                                 the bytes of FoldWrongAt and FoldWrongAtWhenComparing
 //! differ --replay FILE            one list, in the form of src/script.rs
 //!
 //! --out FILE      where a list that failed is written too

@@ -20,6 +20,8 @@ macro_rules! wrong {
             BlindTo(Fault),
             /// A byte that does not fold comes out as another, and all others as they should.
             FoldWrongAt(u8),
+            /// The same, but only when names are compared; they are stored as they should be.
+            FoldWrongAtWhenComparing(u8),
             $($(#[$said])* $name,)*
         }
 
@@ -267,6 +269,7 @@ impl Rules for Bent {
         let folded = |byte| match now() {
             FoldWhenComparingOnly => Law::fold(byte),
             FoldWhenStoringOnly => byte,
+            FoldWrongAtWhenComparing(wrong) if byte == wrong => byte ^ 0x20,
             _ => Self::fold(byte),
         };
         let same = |(&stored, &byte): (&u8, &u8)| stored == folded(byte);
@@ -514,8 +517,11 @@ pub fn all() -> Vec<Named> {
     WRONG.iter().copied().chain(blind).map(named).collect()
 }
 
-/// The variant whose fold is wrong at this byte alone, one that does not fold.
-pub fn fold_wrong_at(byte: u8) -> Named {
-    assert_eq!(Law::fold(byte), byte, "a byte that does not fold");
-    named(FoldWrongAt(byte))
+/// The two variants whose fold is wrong at a single byte that does not fold, with a byte for each:
+/// wrong wherever names are folded, and wrong only when they are compared.
+pub fn folds_wrong_at(bytes: [u8; 2]) -> [Named; 2] {
+    for byte in bytes {
+        assert_eq!(Law::fold(byte), byte, "a byte that does not fold");
+    }
+    [FoldWrongAt(bytes[0]), FoldWrongAtWhenComparing(bytes[1])].map(named)
 }
