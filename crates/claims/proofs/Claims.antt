@@ -8,7 +8,7 @@ use Rattle.claims.specs.Others.{KeepsOthers}
 use Rattle.claims.specs.Established.{EstablishedExactly}
 use Rattle.claims.specs.Tick.{Ticking}
 use Rattle.claims.specs.Demand3.{Demand3}
-use Rattle.claims.specs.Samples.{Samples, byTally, ClockSamples, SpanSamples, NameSamples}
+use Rattle.claims.specs.Samples.{Samples, byTally, ClockSamples, SpanSamples, NameSamples, FoldSettled}
 use Rattle.claims.specs.SoundSamples.{SoundSamples}
 use Rattle.claims.specs.Pins.{Pinned}
 use Rattle.claims.specs.Reply.{ReplyClaim}
@@ -33,6 +33,7 @@ use Rattle.claims.proofs.Established.{established-exactly}
 use Rattle.claims.proofs.Tick.{ticking}
 use Rattle.claims.proofs.Demand3.{demand3}
 use Rattle.claims.proofs.Samples.{samples-hold, clock-samples-hold, span-samples-hold, name-samples-hold, sound-samples-hold, pinned}
+use Rattle.claims.proofs.FoldSettled.{fold-settled}
 use Rattle.claims.proofs.Reply.{reply-claim}
 use Rattle.claims.proofs.Reading.{reads-queries}
 use Rattle.claims.proofs.AnySound.{any-sound}
@@ -63,11 +64,13 @@ pub record Claims (s : Server) : Type 0 where
   pub ticking : Ticking s
   -- 5: demand 3, over every list of makings, datagrams and ticks on one table
   pub demand3 : Demand3 s
-  -- 6: document 01's samples, W1 to W10, those of the clock moved, of a response's span and of names compared, and W11 with the table's bytes
+  -- 6: document 01's samples, W1 to W10, those of the clock moved, of a response's span and of names compared, which no other fold meets, and W11 with the
+  -- table's bytes
   pub samples : Samples
   pub clockSamples : ClockSamples advance × ClockSamples byTally
   pub spanSamples : SpanSamples
   pub nameSamples : NameSamples question
+  pub foldSettled : FoldSettled
   pub pinned : Pinned s
   pub soundSamples : SoundSamples
   -- 7: an answered datagram's reply, place by place
@@ -120,6 +123,7 @@ claims =
       clockSamples = clock-samples-hold;
       spanSamples = span-samples-hold;
       nameSamples = name-samples-hold;
+      foldSettled = fold-settled;
       pinned = pinned;
       soundSamples = sound-samples-hold;
       reply = reply-claim;

@@ -9,6 +9,7 @@ pub mod Tick
 pub mod Demand3
 pub mod Definitions
 pub mod Samples
+pub mod FoldSettled
 pub mod Reply
 pub mod LiveAge
 pub mod Repeats

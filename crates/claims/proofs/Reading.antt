@@ -30,7 +30,7 @@ fold-upper : (x : ℕ) → upper x ≡ true → fold x ≡ x + 32
 unfolding fold
 fold-upper x h = rw h
 
-folded : (x : ℕ) → Folded x (fold x)
+pub folded : (x : ℕ) → Folded x (fold x)
 folded x =
     ⊎-elim
     (λ (h : upper x ≡ true). Folded.letter (upper-is x h .0) (upper-is x h .1) (fold-upper x h))

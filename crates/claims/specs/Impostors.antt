@@ -8,10 +8,9 @@ use lib.ListN.{length, getD, set, drop}
 use lib.IntN.{ℤ, pos, negsuc}
 use lib.Dec.{eqb, leb, ltb}
 use Rattle.model.specs.Lists.{count, any, upTo}
-use Rattle.model.specs.Numbers.{part}
 use Rattle.model.specs.Names.{fold}
 use Rattle.model.specs.Clock.{Clock, step, slack, moved, advance, placeOf, ageAt}
-use Rattle.model.specs.Query.{Question, LlqOption, nameAt, questionStart, question, llqOption, qdcount, matched}
+use Rattle.model.specs.Query.{Question, LlqOption, question, llqOption, qdcount, matched}
 use Rattle.model.specs.Table.{Entry, Slot, free, held, Table, tableBytes, readTable}
 use Rattle.model.specs.Rules.{Holding, holdings, asks, numbered, limitOf, shareOf, reserve}
 use Rattle.model.specs.Serve.{Sender, Outcome, Served, Kind, badVersion, badFormat, setup, response, refresh, isFree, findEntry, slotOf, withClock, withSlot, freeRunOut, movedOn, kindOfOption, serveOption, serveKind, onSetup, onResponse, lifeLeft, rightLease, answers, challenge, retryLater, granted, establish}
@@ -27,7 +26,7 @@ use Rattle.claims.specs.Reply.{ReplyClaim}
 use Rattle.claims.specs.LiveAge.{Grows, SinceStamp, Summed}
 use Rattle.claims.specs.Repeats.{ToldLeases}
 use Rattle.claims.specs.Resumes.{Resumes}
-use Rattle.claims.specs.Samples.{ClockSamples, NameSamples}
+use Rattle.claims.specs.Samples.{ClockSamples, NameSamples, readBy}
 
 -- A SERVER WITH ONE CALL OF ITS OWN, the others those of the server given: a further call is one line in each
 abbrev pub withMake : Server → (MakeCall → List ℕ → Made) → Server
@@ -342,9 +341,7 @@ foldEntries = upTo 256 fold
 
 -- question i with its name read through a table
 abbrev pub readThrough : List ℕ → List ℕ → ℕ → Question
-readThrough table d i =
-    let at = questionStart d i in
-    record { name = map (λ b. getD table b 0) (part at (nameAt d at) d); qtype = question d i .qtype; qclass = question d i .qclass }
+readThrough table = readBy (λ b. getD table b 0)
 
 -- Z stays Z
 abbrev pub readUnfoldedZ : List ℕ → ℕ → Question

@@ -1,18 +1,21 @@
 -- Claim 6: document 01's samples W1 to W10, and two steps beside them, one table under one statement, of the definitions that contracts and
--- claims cite; and samples of the clock moved, of a response's span and of names compared, one table each under one statement. Assumes nothing.
-use Prim.Native.Nat.{ℕ, _+_, _%_}
+-- claims cite; samples of the clock moved, of a response's span and of names compared, one table each under one statement; and that no other fold
+-- meets those of names. Assumes nothing.
+use Prim.Native.Nat.{ℕ, _+_, _%_, _<_}
 use mathlib.Core.Path.{_≡_}
 use mathlib.Core.Bool.{Bool, true, false}
-use mathlib.Core.List.{List, [], _∷_, _++_}
+use mathlib.Core.List.{List, [], _∷_, _++_, map}
 use lib.ListN.{length, replicate}
 use lib.IntN.{ℤ, pos, negsuc}
 use Rattle.model.specs.Lists.{bit, count, upTo}
 use Rattle.model.specs.Clock.{Clock, step, ageAt, runOut}
-use Rattle.model.specs.Query.{Question, LlqOption}
+use Rattle.model.specs.Numbers.{part}
+use Rattle.model.specs.Query.{Question, LlqOption, nameAt, questionStart, question}
 use Rattle.model.specs.Table.{Entry, free, held, Table}
 use Rattle.model.specs.Rules.{Holding, entriesOf, asks, grantedLease, freshNumber}
 use Rattle.model.specs.Serve.{Sender, Served, isFree, answers, serveOption}
 use Rattle.claims.specs.Tally.{moveTally, isOf, isAnswered}
+use Rattle.claims.specs.Reading.{Folded}
 
 -- an established entry with this number
 abbrev pub entryNumbered : ℕ → Entry
@@ -191,6 +194,19 @@ alphabet first = upTo 63 (λ i. first + i % 26)
 abbrev pub unfolded : ℕ → NameSample
 unfolded first = against (oneLabel (run first 32)) (oneLabel (run first 32)) true
 
+-- all 256 bytes, 32 to a name: A to Z are folded, the others are as they are
+abbrev pub everyByte : List NameSample
+everyByte =
+    unfolded 0
+    ∷ unfolded 32
+    ∷ against (oneLabel (64 ∷ (run 97 26 ++ run 91 5))) (oneLabel (run 64 32)) true
+    ∷ unfolded 96
+    ∷ unfolded 128
+    ∷ unfolded 160
+    ∷ unfolded 192
+    ∷ unfolded 224
+    ∷ []
+
 abbrev pub nameSamples : List NameSample
 nameSamples =
     against (oneLabel (0x40 ∷ 97 ∷ 122 ∷ 0x5B ∷ [])) (oneLabel (0x40 ∷ 65 ∷ 90 ∷ 0x5B ∷ [])) true  -- @az[ against @AZ[
@@ -200,15 +216,7 @@ nameSamples =
     ∷ against (oneLabel (0x7A ∷ [])) (oneLabel (0x5A ∷ [])) true  -- z against Z
     ∷ against (0 ∷ []) (0 ∷ []) true  -- the root
     ∷ against (oneLabel (alphabet 97)) (oneLabel (alphabet 65)) true  -- 63 capitals against their small letters
-    ∷ unfolded 0  -- all 256 bytes, 32 to a name: A to Z are folded, the others are as they are
-    ∷ unfolded 32
-    ∷ against (oneLabel (64 ∷ (run 97 26 ++ run 91 5))) (oneLabel (run 64 32)) true
-    ∷ unfolded 96
-    ∷ unfolded 128
-    ∷ unfolded 160
-    ∷ unfolded 192
-    ∷ unfolded 224
-    ∷ []
+    ∷ everyByte
 
 -- the datagram that asks for a name: a header of which nothing is read here, the name, type PTR, class IN
 abbrev pub queryFor : List ℕ → List ℕ
@@ -225,3 +233,12 @@ NamesAgree reads (x ∷ xs) =
 -- of any way to read question i of a datagram; it holds of the reader that the contracts cite
 abbrev pub NameSamples : (List ℕ → ℕ → Question) → Type 0
 NameSamples reads = NamesAgree reads nameSamples
+
+-- question i with each byte of its name read by a function
+abbrev pub readBy : (ℕ → ℕ) → List ℕ → ℕ → Question
+readBy f d i =
+    let at = questionStart d i in record { name = map f (part at (nameAt d at) d); qtype = question d i .qtype; qclass = question d i .qclass }
+
+-- THE SAMPLES SETTLE THE FOLD: only by one that folds every byte right are they met
+abbrev pub FoldSettled : Type 0
+FoldSettled = (f : ℕ → ℕ) → NameSamples (readBy f) → (b : ℕ) → b < 256 → Folded b (f b)
