@@ -117,7 +117,17 @@ sampleSender = record { address = 9; port = 5353 }
 
 abbrev pub sampleHolding : Bool → ℕ → ℕ → List ℕ → Holding
 sampleHolding established granted age name =
-    record { established = established; address = 9; port = 5353; number = 7; lease = granted; age = age; qtype = 12; qclass = 1; name = name }
+    record {
+      established = established;
+      address = sampleSender .address;
+      port = sampleSender .port;
+      number = 7;
+      lease = granted;
+      age = age;
+      qtype = 12;
+      qclass = 1;
+      name = name;
+    }
 
 -- THE SPAN: granted lease, age and lease sent, and whether a response with it is right
 pub record SpanSample : Type 0 where

@@ -15,6 +15,7 @@ module _ {A : Type 0} (test : ℕ → A → Bool) where
   passes i [] = true
   passes i (x ∷ xs) = test i x && passes (suc i) xs
 
+  -- `other` is what a look-up past the end gives
   module _ (other : A) where
     passes-from : (i k : ℕ) (xs : List A) → passes i xs ≡ true → k < length xs → test (i + k) (getD xs k other) ≡ true
     unfolding passes
