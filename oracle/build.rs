@@ -1,7 +1,8 @@
 //! With the feature `linked`: links libllq.a from the folder that LLQ_LIB names.
 //! With the feature `bench`: compiles ../bench/plain.c and links it too. LLQ_PLAIN_SHIFT puts as many
 //! bytes before its code: its time depends on where it lies.
-//! With the feature `before`: links an earlier libllq.a, from the folder that LLQ_BEFORE names, its calls renamed.
+//! With the feature `before`: links an earlier libllq.a, from the folder that LLQ_BEFORE names, its calls renamed. In both
+//! archives every function then starts at a multiple of 64 bytes, since a loop's time depends on where it lies.
 
 use std::env;
 use std::fs;
@@ -9,33 +10,41 @@ use std::path::PathBuf;
 use std::process::Command;
 
 fn main() {
-    println!("cargo:rerun-if-env-changed=LLQ_LIB");
-    if env::var_os("CARGO_FEATURE_LINKED").is_some() {
-        let folder = env::var("LLQ_LIB").expect("LLQ_LIB names the folder of libllq.a");
-        println!("cargo:rerun-if-changed={folder}/libllq.a");
+    let with = |feature: &str| env::var_os(format!("CARGO_FEATURE_{feature}")).is_some();
+    if with("BEFORE") {
+        aligned("LLQ_LIB", "llq");
+        aligned("LLQ_BEFORE", "before");
+    } else if with("LINKED") {
+        let folder = folder_of("LLQ_LIB");
         println!("cargo:rustc-link-search=native={folder}");
         println!("cargo:rustc-link-lib=static=llq");
     }
-    if env::var_os("CARGO_FEATURE_BENCH").is_some() {
+    if with("BENCH") {
         plain();
-    }
-    if env::var_os("CARGO_FEATURE_BEFORE").is_some() {
-        before();
     }
 }
 
-/// The earlier archive.
-fn before() {
-    println!("cargo:rerun-if-env-changed=LLQ_BEFORE");
-    let from = env::var("LLQ_BEFORE").expect("LLQ_BEFORE names the folder of an earlier libllq.a");
-    println!("cargo:rerun-if-changed={from}/libllq.a");
+/// The folder of libllq.a that the variable names.
+fn folder_of(variable: &str) -> String {
+    println!("cargo:rerun-if-env-changed={variable}");
+    let folder =
+        env::var(variable).unwrap_or_else(|_| panic!("{variable} names libllq.a's folder"));
+    println!("cargo:rerun-if-changed={folder}/libllq.a");
+    folder
+}
+
+/// That archive under this name, which its calls start with, its functions at multiples of 64 bytes.
+fn aligned(variable: &str, archive: &str) {
+    let from = folder_of(variable);
     let folder = PathBuf::from(env::var_os("OUT_DIR").expect("cargo sets OUT_DIR"));
     let renamed =
-        ["make", "tick", "serve"].map(|call| format!("--redefine-sym=llq_{call}=before_{call}"));
-    let archives = [PathBuf::from(from).join("libllq.a"), folder.join("libbefore.a")];
-    run(Command::new("objcopy").args(renamed).args(archives));
+        ["make", "tick", "serve"].map(|call| format!("--redefine-sym=llq_{call}={archive}_{call}"));
+    let to = folder.join(format!("lib{archive}.a"));
+    let mut command = Command::new("objcopy");
+    command.arg("--set-section-alignment=.text.*=64").args(renamed);
+    run(command.arg(PathBuf::from(from).join("libllq.a")).arg(to));
     println!("cargo:rustc-link-search=native={}", folder.display());
-    println!("cargo:rustc-link-lib=static=before");
+    println!("cargo:rustc-link-lib=static={archive}");
 }
 
 /// The plain C, its calls renamed so that they stand beside the library's.

@@ -1,4 +1,4 @@
-//! A list of calls carried out by the oracle and by a server under test, each
+//! A list of calls carried out by a reference and by a server under test, each
 //! on buffers of its own, with the tally beside them. After every step all
 //! three are compared: numbers, lengths, freed counts, every byte of tables and
 //! replies, the bytes around the buffers, and the table's content with the tally.
@@ -42,7 +42,7 @@ impl Guarded {
 }
 
 pub struct Run<'a> {
-    /// The oracle; or the server under test itself, to go by the tally alone.
+    /// The oracle or an earlier archive; or the server under test itself, to go by the tally alone.
     reference: &'a dyn Server,
     tested: &'a dyn Server,
     random: Random,

@@ -18,6 +18,7 @@ pub mod tally;
 pub mod compare;
 pub mod coverage;
 pub mod generate;
+pub mod pairs;
 pub mod random;
 pub mod runs;
 pub mod script;

@@ -11,6 +11,40 @@ pub fn fold(byte: u8) -> u8 {
     byte.to_ascii_lowercase()
 }
 
+/// Whether two names are the same, and how many byte pairs were looked at, the differing one included.
+#[derive(Clone, Copy, PartialEq, Eq, Debug)]
+pub struct Compared {
+    pub same: bool,
+    pub pairs: usize,
+}
+
+impl Compared {
+    pub const fn same(pairs: usize) -> Compared {
+        Compared { same: true, pairs }
+    }
+
+    pub const fn differ(pairs: usize) -> Compared {
+        Compared { same: false, pairs }
+    }
+}
+
+/// A stored name with one as sent, its bytes folded: the lengths, then byte pairs from the front, up
+/// to the first that differs.
+pub fn compare(stored: &[u8], sent: &[u8], fold: impl Fn(u8) -> u8) -> Compared {
+    if stored.len() != sent.len() {
+        return Compared::differ(0);
+    }
+    match stored.iter().zip(sent).position(|(&stored, &byte)| stored != fold(byte)) {
+        Some(at) => Compared::differ(at + 1),
+        None => Compared::same(stored.len()),
+    }
+}
+
+/// Two stored names, as they lie.
+pub fn compare_stored(one: &[u8], other: &[u8]) -> Compared {
+    compare(one, other, |byte| byte)
+}
+
 /// Whether the bytes are one whole wire name with no byte of a label in A to Z.
 pub fn is_stored(bytes: &[u8]) -> bool {
     let mut rest = bytes;

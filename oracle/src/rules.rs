@@ -4,7 +4,7 @@
 
 use crate::clock::Clock;
 use crate::fault::Fault;
-use crate::name;
+use crate::name::{self, Compared};
 use crate::query::{LlqNumber, LlqOption, Question, Sender};
 use crate::table::{Entry, Table};
 
@@ -56,9 +56,8 @@ pub trait Rules {
     }
 
     /// A stored name and one as received: compared folded.
-    fn same_name(stored: &[u8], received: &[u8]) -> bool {
-        stored.len() == received.len()
-            && stored.iter().zip(received).all(|(&stored, &byte)| stored == Self::fold(byte))
+    fn same_name(stored: &[u8], received: &[u8]) -> Compared {
+        name::compare(stored, received, Self::fold)
     }
 
     /// The entry is of this address, port and question.
@@ -67,7 +66,7 @@ pub trait Rules {
             && entry.port() == sender.port
             && entry.qtype() == question.qtype
             && entry.qclass() == question.qclass
-            && Self::same_name(entry.name(), question.name)
+            && Self::same_name(entry.name(), question.name).same
     }
 
     /// The entry that a setup finds, pending or not.

@@ -136,7 +136,7 @@ fn same_port_and_question(one: Entry, other: Entry) -> bool {
     one.port() == other.port()
         && one.qtype() == other.qtype()
         && one.qclass() == other.qclass()
-        && one.name() == other.name()
+        && name::compare_stored(one.name(), other.name()).same
 }
 
 /// The sum, over roster lines, of share less held where that is positive.

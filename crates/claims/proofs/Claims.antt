@@ -1,5 +1,6 @@
 -- The claims, all proved of the model's server. Assumes nothing.
 use Rattle.model.specs.Clock.{advance}
+use Rattle.model.specs.Names.{compared}
 use Rattle.model.specs.Query.{question}
 use Rattle.model.specs.Meets.{Server, model}
 use Rattle.claims.specs.Refusals.{Refusals}
@@ -26,6 +27,7 @@ use Rattle.claims.specs.Contracts.{CallsExactly, ContractsExactly}
 use Rattle.claims.specs.Impostors.{Refuted, OwnPlaces}
 use Rattle.claims.specs.Step.{StepMeaning}
 use Rattle.claims.specs.Resumes.{Resumes}
+use Rattle.claims.specs.Comparing.{Compares, ComparesSettled, ComparisonsRefuted, ClausesIndependent, CompareSamples}
 use Rattle.claims.proofs.Refusals.{refusals}
 use Rattle.claims.proofs.Changes.{changes}
 use Rattle.claims.proofs.Others.{keeps-others}
@@ -51,6 +53,7 @@ use Rattle.claims.proofs.Impostors.{refuted}
 use Rattle.claims.proofs.OwnPlaces.{own-places}
 use Rattle.claims.proofs.Step.{step-meaning}
 use Rattle.claims.proofs.Resumes.{resumes}
+use Rattle.claims.proofs.Comparing.{compares, compares-settled, comparisons-refuted, clauses-independent, compare-samples-hold}
 
 pub record Claims (s : Server) : Type 0 where
   -- 1: each number is given exactly if its condition holds and none of a lower number; a refusal changes nothing
@@ -96,6 +99,13 @@ pub record Claims (s : Server) : Type 0 where
   pub step : StepMeaning
   -- a clock that was set back runs on from there
   pub resumes : Resumes advance
+  -- two names are compared lengths first, to the first pair that differs, and the pairs looked at are counted; nothing else meets that, six wrong
+  -- comparisons break it, none of its clauses follows from the others; samples
+  pub comparing : Compares compared
+  pub comparesSettled : ComparesSettled
+  pub comparisonsRefuted : ComparisonsRefuted
+  pub clausesIndependent : ClausesIndependent
+  pub compareSamples : CompareSamples compared
   -- numbers are big endian, and lists of bytes are cut and joined as they say
   pub numbersInBytes : NumbersInBytes
   -- a table's bytes, place by place
@@ -138,6 +148,11 @@ claims =
       storedNames = stored-names;
       step = step-meaning;
       resumes = resumes;
+      comparing = compares;
+      comparesSettled = compares-settled;
+      comparisonsRefuted = comparisons-refuted;
+      clausesIndependent = clauses-independent;
+      compareSamples = compare-samples-hold;
       numbersInBytes = numbers-in-bytes;
       layout = table-layout;
       slot = one-slot;

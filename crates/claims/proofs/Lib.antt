@@ -28,4 +28,5 @@ pub mod OneSlot
 pub mod Contracts
 pub mod Step
 pub mod Resumes
+pub mod Comparing
 pub mod Claims

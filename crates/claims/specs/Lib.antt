@@ -27,3 +27,4 @@ pub mod OneSlot
 pub mod Contracts
 pub mod Step
 pub mod Resumes
+pub mod Comparing

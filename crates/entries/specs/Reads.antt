@@ -48,11 +48,11 @@ entryAt b at =
       len = getD b (at + 39) 0;
     }
 
--- the entry has the sender's address and port, and the question's type, class and length of name
+-- the entry has the sender's address and port, and the question's type and class
 abbrev pub sameFields : Entry → Sender → Question → Bool
 sameFields e s q =
     eqb (e .low) (s .low)
-    && (eqb (e .high) (s .high) && (eqb (e .port) (s .port) && (eqb (e .qtype) (q .qtype) && (eqb (e .qclass) (q .qclass) && eqb (e .len) (q .len)))))
+    && (eqb (e .high) (s .high) && (eqb (e .port) (s .port) && (eqb (e .qtype) (q .qtype) && eqb (e .qclass) (q .qclass))))
 
 -- slot i of n as it is found, with its entry; nothing where there is no such slot
 abbrev pub foundAt : List ℕ → ℕ → ℕ → Found

@@ -63,7 +63,7 @@ fn entry_at(t: &[u8], i: usize) -> Entry
     }
 }
 
-// The entry is of this sender and asks for this type and class of a name as long.
+// The entry is of this sender and asks for this type and class.
 fn same_fields(e: Entry, s: Sender, q: Question) -> bool
     ensures { λ r. ⌜ r ≡ sameFields e s q ⌝ }
 {
@@ -79,10 +79,7 @@ fn same_fields(e: Entry, s: Sender, q: Question) -> bool
     if e.qtype != q.qtype {
         return false;
     }
-    if e.qclass != q.qclass {
-        return false;
-    }
-    e.len as u16 == q.len
+    e.qclass == q.qclass
 }
 
 // The entry e, which is the one at a, is of this sender and this question. Its name is compared where it is stored.
@@ -91,7 +88,15 @@ fn entry_asks(t: &[u8], a: usize, e: Entry, s: Sender, d: &[u8], q: Question) ->
     ensures { λ r. ⌜ r ≡ asks (senderOf s .address) (s .port) (questionOf (now (d .entry)) q) (holdingAt (now (t .entry)) a) ⌝ }
 {
     if same_fields(e, s, q) {
-        return names::same_name(t, a + layout::NAME_AT, d, q.start as usize, e.len as usize);
+        let compared = names::compare(
+            t,
+            a + layout::NAME_AT,
+            e.len as usize,
+            d,
+            q.start as usize,
+            q.len as usize,
+        );
+        return compared.same;
     }
     false
 }

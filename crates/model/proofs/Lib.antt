@@ -9,6 +9,7 @@ pub mod Meaning
 pub mod Integers
 pub mod ClockLaws
 pub mod NameLaws
+pub mod CompareLaws
 pub mod HoldingLaws
 pub mod FreshLaws
 pub mod StepLaws

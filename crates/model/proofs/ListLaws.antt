@@ -5,7 +5,7 @@ use native.Mathlib.Omega.{arith}
 use mathlib.Core.Path.{_≡_, refl, sym, ap, _∙_, fun-ext}
 use mathlib.Core.Bool.{Bool, true, false, not, cond, _&&_, _||_, and-true, and-assoc, Bool·not-not}
 use mathlib.Core.List.{List, [], _∷_, _++_, append-nil, append-assoc, map}
-use mathlib.Core.Logic.{_⊎_, inl, inr, ⊎-elim}
+use mathlib.Core.Logic.{_⊎_, inl, inr, ⊎-elim, _≢_}
 use lib.ListN.{length, getD, drop, set, length-append, List·getD-append}
 use lib.Seq.{ext-getD, take-add, drop-drop, getD-at}
 use lib.Dec.{eqb, leb, ltb}
@@ -452,6 +452,10 @@ same-true (x ∷ a) (y ∷ b) e =
     let p : x ≡ y = eqb-true x y (and-left (eqb x y) (same a b) e) in
     let q : a ≡ b = same-true a b (and-right (eqb x y) (same a b) e) in
     cc
+
+-- two lists that differ are told apart
+pub same-no : (a b : List ℕ) → a ≢ b → same a b ≡ false
+same-no a b h = ⊎-elim (λ (e : same a b ≡ true). absurd (h (same-true a b e))) (λ (e : same a b ≡ false). e) (test (same a b))
 
 pub same-sym : (a b : List ℕ) → same a b ≡ same b a
 same-sym a b =

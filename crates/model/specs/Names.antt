@@ -4,6 +4,7 @@ use mathlib.Core.Bool.{Bool, true, false, not, cond, _&&_}
 use mathlib.Core.List.{List, [], _∷_}
 use lib.ListN.{length}
 use lib.Dec.{eqb, leb, ltb}
+use Rattle.model.specs.Lists.{same}
 
 -- a letter A to Z
 abbrev pub upper : ℕ → Bool
@@ -25,3 +26,20 @@ unfoldable pub lowerName : ℕ → List ℕ → Bool
 lowerName k [] = false
 lowerName zero (b ∷ s) = cond (eqb b 0) (eqb (length s) 0) (ltb b 64 && lowerName b s)
 lowerName (suc k) (b ∷ s) = not (upper b) && lowerName k s
+
+-- Document 02's ticket 3: what a comparison of two names returns. A name's bytes are all of them, length bytes and the final zero too.
+pub record Compared : Type 0 where
+  -- they are the same
+  pub same : Bool
+  -- how many byte pairs were looked at: byte k of one and byte k of the other, from the front, the differing pair included
+  pub pairs : ℕ
+
+-- the pairs looked at up to the first that differs, or to the end of the shorter list
+unfoldable pub looked : List ℕ → List ℕ → ℕ
+looked [] ys = 0
+looked (x ∷ xs) [] = 0
+looked (x ∷ xs) (y ∷ ys) = cond (eqb x y) (suc (looked xs ys)) 1
+
+-- a stored name and another, stored or sent, this one folded. Lengths first: where they differ no pair is looked at.
+unfoldable pub compared : List ℕ → List ℕ → Compared
+compared xs ys = record { same = same xs ys; pairs = cond (eqb (length xs) (length ys)) (looked xs ys) 0 }

@@ -1,4 +1,5 @@
 pub mod ConstantTables
 pub mod FoldLaws
 pub mod FoldTable
+pub mod PairLaws
 pub mod NameLaws

@@ -1,2 +1,3 @@
 pub mod FoldTable
+pub mod Comparison
 pub mod Labels

@@ -1,33 +1,107 @@
-// The letters of domain names: names compare with A to Z folded to a to z, other bytes as they are; they are stored folded.
+// Domain names: compared with A to Z folded to a to z, other bytes as they are; stored folded; a stored one's labels and case.
 ghost use mathlib.Core.Path.{_≡_};
 ghost use mathlib.Core.Bool.{not};
 ghost use mathlib.Core.List.{map};
 ghost use Prim.Native.Nat.{_+_, _≤_, _<_};
 ghost use lib.ListN.{length};
 ghost use lib.Dec.{eqb};
-ghost use Rattle.model.specs.Lists.{bit, same};
+ghost use Rattle.model.specs.Lists.{bit};
 ghost use Rattle.model.specs.Numbers.{part, splice};
-ghost use Rattle.model.specs.Names.{fold, lowerName};
+ghost use Rattle.model.specs.Names.{fold, compared, lowerName};
+ghost use Rattle.names.specs.Comparison.{comparedOf};
 ghost use Rattle.names.specs.Labels.{labelled, lowerCase};
 use fold_table::FOLD;
 use fold_table::folded;
 
 pub mod fold_table;
 
-// The stored name of n bytes at a is the sent one at b, folded: from the front to the first difference.
-pub fn same_name(t: &[u8], a: usize, d: &[u8], b: usize, n: usize) -> bool
-    requires { ⌜ (a + n ≤ length (now t)) × (b + n ≤ length (now d)) ⌝ }
-    ensures { λ r. ⌜ r ≡ same (part a n (now (t .entry))) (map fold (part b n (now (d .entry)))) ⌝ }
+// What a comparison of two names returns: whether they are the same, and how many byte pairs it looked at, the differing one included. Lengths
+// are no pair: where they differ no byte of either name is read, and the count is 0.
+pub struct Compared {
+    pub same: bool,
+    pub pairs: usize,
+}
+
+// The stored name of m bytes at a and the sent one of n bytes at b, this one folded. Byte by byte from the front to the first pair that differs:
+// the count is the number of pairs that the loop looked at.
+pub fn compare(t: &[u8], a: usize, m: usize, d: &[u8], b: usize, n: usize) -> Compared
+    requires { ⌜ (a + m ≤ length (now t)) × (b + n ≤ length (now d)) ⌝ }
+    ensures { λ r. ⌜ comparedOf r ≡ compared (part a m (now (t .entry))) (map fold (part b n (now (d .entry)))) ⌝ }
 {
+    if m != n {
+        return Compared {
+            same: false,
+            pairs: 0,
+        };
+    }
     let table = FOLD;
     let mut i: usize = 0;
     while i < n {
         if t[a + i] != folded(&table, d[b + i]) {
-            return false;
+            return Compared {
+                same: false,
+                pairs: i + 1,
+            };
         }
         i += 1;
     }
-    true
+    Compared {
+        same: true,
+        pairs: i,
+    }
+}
+
+// The n bytes at a and the n at c, as they lie: byte by byte from the front to the first pair that differs.
+fn compare_bytes(t: &[u8], a: usize, c: usize, n: usize) -> Compared
+    requires { ⌜ (a + n ≤ length (now t)) × (c + n ≤ length (now t)) ⌝ }
+    ensures { λ r. ⌜ comparedOf r ≡ compared (part a n (now (t .entry))) (part c n (now (t .entry))) ⌝ }
+{
+    let mut k: usize = 0;
+    while k < n {
+        if t[a + k] != t[c + k] {
+            return Compared {
+                same: false,
+                pairs: k + 1,
+            };
+        }
+        k += 1;
+    }
+    Compared {
+        same: true,
+        pairs: k,
+    }
+}
+
+// The stored name of m bytes at a and the stored one of n bytes at c; both are folded. Eight pairs that all agree are passed by one test of a
+// word, and all eight count; in the first word that differs, and behind the last whole word, pairs are looked at one by one. In a word that differs
+// the answer does not wait for the count, so that where the count is not read the compiler leaves it out.
+pub fn compare_stored(t: &[u8], a: usize, m: usize, c: usize, n: usize) -> Compared
+    requires { ⌜ (a + m ≤ length (now t)) × (c + n ≤ length (now t)) ⌝ }
+    ensures { λ r. ⌜ comparedOf r ≡ compared (part a m (now (t .entry))) (part c n (now (t .entry))) ⌝ }
+{
+    if m != n {
+        return Compared {
+            same: false,
+            pairs: 0,
+        };
+    }
+    let words = n / 8;
+    let mut i: usize = 0;
+    while i < words {
+        if octets::get64(t, a + 8 * i) != octets::get64(t, c + 8 * i) {
+            let word = compare_bytes(t, a + 8 * i, c + 8 * i, 8);
+            return Compared {
+                same: false,
+                pairs: 8 * i + word.pairs,
+            };
+        }
+        i += 1;
+    }
+    let rest = compare_bytes(t, a + 8 * words, c + 8 * words, n % 8);
+    Compared {
+        same: rest.same,
+        pairs: 8 * words + rest.pairs,
+    }
 }
 
 // The n bytes of d from index from, folded, copied to s at index at.

@@ -1,53 +1,18 @@
--- Zeros and equal bytes, step by step. Assumes nothing.
+-- Zeros, step by step. Assumes nothing.
 use Prim.Native.Nat.{ℕ, zero, suc, _+_, _-_, _*_, _≤_, _<_}
 use native.Mathlib.Numerals.{add-one}
 use native.Mathlib.Omega.{arith}
 use mathlib.Core.Path.{_≡_, refl, sym, ap, _∙_}
 use mathlib.Core.Bool.{Bool, true, false, _&&_, and-true, and-false}
-use mathlib.Core.Logic.{⊎-elim}
-use mathlib.Core.List.{List, _++_}
+use mathlib.Core.List.{List}
 use lib.ListN.{length, getD, set, replicate, length-replicate, replicate-append-replicate}
 use lib.Dec.{eqb}
 use borrow.Author.Tests.{eqb-true, eq-eqb}
 use lib.Seq.{drop-cons}
 use Rattle.model.specs.Lists.{same}
-use Rattle.model.specs.Numbers.{bigEndian, bytesOf, Bytes, part, splice}
-use Rattle.model.proofs.NumberLaws.{bytes-big, big-ext, getD-part, length-part, part-none, splice-next}
-use Rattle.model.proofs.ListLaws.{iff, and-left, and-right, and-both, same-refl, same-true, same-append, part-add, test, eqb-sym}
-
--- two lists that differ are told apart
-pub same-no : (x y : List ℕ) → (x ≡ y → ⊥) → same x y ≡ false
-same-no x y h = ⊎-elim (λ (e : same x y ≡ true). absurd (h (same-true x y e))) (λ (e : same x y ≡ false). e) (test (same x y))
-
--- parts that are compared w bytes at a time: of s from a, and of t from b
-module _ (s t : List ℕ) (a b : ℕ) where
-  pub step : (i w : ℕ) → Bytes s → Bytes t → part a i s ≡ part b i t → a + i + w ≤ length s → b + i + w ≤ length t
-      → bigEndian s (a + i) w ≡ bigEndian t (b + i) w → part a (i + w) s ≡ part b (i + w) t
-  step i w p q e h l z =
-      part-add a i w s
-      ∙ ap (λ (x : List ℕ). x ++ part (a + i) w s) e
-      ∙ ap (λ (x : List ℕ). part b i t ++ x) (sym (bytes-big s (a + i) w p h) ∙ ap (bytesOf w) z ∙ bytes-big t (b + i) w q l)
-      ∙ sym (part-add b i w t)
-
-  at-part : (n i j : ℕ) → i + j < n → part a n s ≡ part b n t → getD s (a + i + j) 0 ≡ getD t (b + i + j) 0
-  at-part n i j h e =
-      let f : a + (i + j) ≡ a + i + j = omega arith in
-      let g : b + (i + j) ≡ b + i + j = omega arith in
-      rw (f, g) at (sym (getD-part a n s (i + j) h) ∙ ap (λ (x : List ℕ). getD x (i + j) 0) e ∙ getD-part b n t (i + j) h)
-
-  pub stop : (n i w : ℕ) → i + w ≤ n → (bigEndian s (a + i) w ≡ bigEndian t (b + i) w → ⊥) → same (part a n s) (part b n t) ≡ false
-  stop n i w h z =
-      same-no (part a n s) (part b n t) (λ e. z (big-ext s t (a + i) (b + i) w (λ j l. at-part n i j (omega arith) e)))
-
-  pub done : (n : ℕ) → part a n s ≡ part b n t → same (part a n s) (part b n t) ≡ true
-  done n e = rw e (same-refl (part b n t))
-
-  -- n bytes are j and then k
-  pub both : (j k : ℕ) → a + j ≤ length s → b + j ≤ length t
-      → same (part a (j + k) s) (part b (j + k) t) ≡ same (part a j s) (part b j t) && same (part (a + j) k s) (part (b + j) k t)
-  both j k h l =
-      rw (part-add a j k s, part-add b j k t)
-      (same-append (part a j s) (part (a + j) k s) (part b j t) (part (b + j) k t) (length-part a j s h ∙ sym (length-part b j t l)))
+use Rattle.model.specs.Numbers.{bigEndian, part, splice}
+use Rattle.model.proofs.NumberLaws.{length-part, part-none, splice-next}
+use Rattle.model.proofs.ListLaws.{iff, and-left, and-right, and-both, same-append, part-add, eqb-sym}
 
 -- zeros
 abbrev pub noughts : ℕ → List ℕ

@@ -1,7 +1,7 @@
-// Bytes of a slice: big-endian numbers read and written, zeros, equality, copies.
+// Bytes of a slice: big-endian numbers read and written, zeros, copies.
 ghost use mathlib.Core.Path.{_≡_};
 ghost use mathlib.Core.Bool.{_&&_};
-ghost use Prim.Native.Nat.{_+_, _*_, _<_, _≤_};
+ghost use Prim.Native.Nat.{_+_, _≤_};
 ghost use lib.ListN.{length, replicate};
 ghost use Rattle.model.specs.Lists.{same};
 ghost use Rattle.model.specs.Numbers.{bigEndian, bytesOf, part, splice};
@@ -180,48 +180,6 @@ pub fn zeros(s: &[u8], at: usize, n: usize) -> bool
     }
     let h = 32 * ((n + 63) / 64);
     zero_both(s, at, at + (n - h), h)
-}
-
-// The k times eight bytes of s from index a are those of t from index b.
-fn equal_words(s: &[u8], a: usize, t: &[u8], b: usize, k: usize) -> bool
-    requires { ⌜ (a + 8 * k ≤ length (now s)) × (b + 8 * k ≤ length (now t)) ⌝ }
-    ensures { λ r. ⌜ r ≡ same (part a (8 * k) (now (s .entry))) (part b (8 * k) (now (t .entry))) ⌝ }
-{
-    let mut i: usize = 0;
-    while i < k {
-        if get64(s, a + 8 * i) != get64(t, b + 8 * i) {
-            return false;
-        }
-        i += 1;
-    }
-    true
-}
-
-fn equal_bytes(s: &[u8], a: usize, t: &[u8], b: usize, n: usize) -> bool
-    requires { ⌜ (a + n ≤ length (now s)) × (b + n ≤ length (now t)) ⌝ }
-    ensures { λ r. ⌜ r ≡ same (part a n (now (s .entry))) (part b n (now (t .entry))) ⌝ }
-{
-    let mut i: usize = 0;
-    while i < n {
-        if s[a + i] != t[b + i] {
-            return false;
-        }
-        i += 1;
-    }
-    true
-}
-
-// The n bytes of s from index a are those of t from index b: eight at a time and then the rest.
-pub fn equal(s: &[u8], a: usize, t: &[u8], b: usize, n: usize) -> bool
-    requires { ⌜ (a + n ≤ length (now s)) × (b + n ≤ length (now t)) ⌝ }
-    ensures { λ r. ⌜ r ≡ same (part a n (now (s .entry))) (part b n (now (t .entry))) ⌝ }
-{
-    let k = n / 8;
-    if equal_words(s, a, t, b, k) {
-        equal_bytes(s, a + 8 * k, t, b + 8 * k, n % 8)
-    } else {
-        false
-    }
 }
 
 // The n bytes of s from index from, copied to d at index at.

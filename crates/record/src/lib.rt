@@ -180,9 +180,8 @@ pub fn same_asked(t: &[u8], a: usize, c: usize) -> bool
     if octets::get32(t, a + layout::TYPE_AT) != octets::get32(t, c + layout::TYPE_AT) {
         return false;
     }
-    let len = t[a + layout::NAME_LENGTH_AT];
-    if len != t[c + layout::NAME_LENGTH_AT] {
-        return false;
-    }
-    octets::equal(t, a + layout::NAME_AT, t, c + layout::NAME_AT, len as usize)
+    let m = t[a + layout::NAME_LENGTH_AT] as usize;
+    let n = t[c + layout::NAME_LENGTH_AT] as usize;
+    let compared = names::compare_stored(t, a + layout::NAME_AT, m, c + layout::NAME_AT, n);
+    compared.same
 }

@@ -1,11 +1,13 @@
-// Runs a list of calls on one table and prints what each gave: document 01's W11 and the lists of docs/SAMPLES.md.
+// Runs a list of calls on one table and prints what each gave: document 01's W11 and the lists of docs/SAMPLES.md. Beside the calls, names are
+// compared and the pairs that were looked at are printed: no call tells of them.
 // Standard input holds the list, as records of a head of 39 bytes and a body. In the head, big endian:
 // kind 1, week 4, second 4, address 16 in two halves, port 2, the host's number 8, room 2, the body's size 2.
 //   M make    room: the table's length; body: the roster
 //   T tick
 //   S serve   room: the reply buffer's length; body: the datagram
+//   C compare room: the stored name's length; body: its bytes and then the sent name's
 //   D print the table
-// The list is cut where the table's length changes and where the table is printed. Each piece is a script, which `script::run` carries out on
+// The list is cut where the table's length changes and before a record that is no call. Each piece is a script, which `script::run` carries out on
 // the lent part of the table; the lines are printed from its answers. A call's line ends in a sum of the table's bytes.
 ghost use Prim.Native.Nat.{_≤_, _<_};
 ghost use lib.ListN.{length};
@@ -13,6 +15,9 @@ ghost use Rattle.script.specs.Spelled.{nextAt};
 
 // The largest table.
 const TABLE: usize = layout::SLOTS_AT + layout::SLOT * layout::SLOTS_MOST;
+
+// The most bytes of a list that are read.
+const LIST: usize = 131072;
 
 fn say(word: &[u8]) {
     io::write_all(1, word);
@@ -116,6 +121,28 @@ fn dump(t: &[u8]) {
     say(b"\n");
 }
 
+// A comparison's line: 1 where the names are the same and else 0, and how many byte pairs were looked at.
+fn say_compared(word: &[u8], r: names::Compared) {
+    say(word);
+    let mut same: u64 = 0;
+    if r.same {
+        same = 1;
+    }
+    say_number(same);
+    say_number(r.pairs as u64);
+    say(b"\n");
+}
+
+// The stored name is the first m bytes and the sent one the rest, folded and then as it lies.
+fn compare(s: &[u8], m: usize) {
+    if s.len() < m {
+        return;
+    }
+    let n = s.len() - m;
+    say_compared(b"compare", names::compare(s, 0, m, s, m, n));
+    say_compared(b"stored", names::compare_stored(s, 0, m, m, n));
+}
+
 // The length of the table that is lent: a making sets it, and it stays for the calls after.
 fn lent(s: &[u8], at: usize, before: u16) -> u16
     requires { ⌜ nextAt (now s) at ≤ length (now s) ⌝ }
@@ -126,11 +153,11 @@ fn lent(s: &[u8], at: usize, before: u16) -> u16
     before
 }
 
-// A piece ends before a table to print, and before a making of another length.
+// A piece ends before a record that is no call, and before a making of another length.
 fn cuts(s: &[u8], at: usize, n: u16) -> bool
     requires { ⌜ nextAt (now s) at ≤ length (now s) ⌝ }
 {
-    s[at] == b'D' || lent(s, at, n) != n
+    s[at] == b'C' || s[at] == b'D' || lent(s, at, n) != n
 }
 
 // Where the piece ends whose first record ends at index from.
@@ -154,10 +181,15 @@ fn run_piece(s: &[u8], at: usize, n: u16, table: &mut [u8], answers: &mut [u8]) 
     ensures { λ r. ⌜ (at < r) × (r ≤ length (now (s .entry))) ⌝ }
 {
     let k = io::count(n as isize, table);
+    let body = at + script::HEAD;
+    let next = script::next(s, at);
+    if s[at] == b'C' {
+        compare(&s[body..next], script::room(s, at) as usize);
+    }
     if s[at] == b'D' {
         dump(&table[..k]);
     }
-    let end = piece(s, script::next(s, at), n);
+    let end = piece(s, next, n);
     run(&s[at..end], &mut table[..k], answers);
     end
 }
@@ -173,7 +205,7 @@ fn run_pieces(s: &[u8], table: &mut [u8], answers: &mut [u8]) {
 }
 
 fn main() {
-    let mut list = io::large_buffer();
+    let mut list = [0u8; LIST];
     let n = io::read_full(0, &mut list);
     let mut table = [0xEEu8; TABLE];
     let mut answers = io::large_buffer();

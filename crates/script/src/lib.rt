@@ -13,7 +13,7 @@ ghost use Rattle.script.specs.Answers.{sumOf, answersLength};
 ghost use Rattle.script.specs.Ran.{Carried, Runs};
 
 // A record's head, with the places of its fields; its body follows.
-const HEAD: usize = 39;
+pub const HEAD: usize = 39;
 
 const WEEK_AT: usize = 1;
 

@@ -12,6 +12,7 @@
 use oracle::server::Before;
 use oracle::server::{Linked, Oracle, Plain, Server};
 use std::hint::black_box;
+use std::ops::Range;
 use std::process::ExitCode;
 use std::time::{Duration, Instant};
 
@@ -55,11 +56,18 @@ enum Call {
     LongSetup,
     /// A new question set up, answered and ended.
     Handshake,
+    /// A repeated setup of the question in the last slot, where one client holds every slot by names of
+    /// the longest kind that are the same but for their last letter.
+    SetupAlike,
+    /// A tick of such a table.
+    TickAlike,
+    /// That setup where they are the same but for their first letter.
+    SetupUnlike,
 }
 
 use Call::*;
 
-const CALLS: [Call; 9] = [
+const CALLS: [Call; 12] = [
     Tick,
     Refresh(1),
     Refresh(4),
@@ -69,6 +77,9 @@ const CALLS: [Call; 9] = [
     DamagedTable,
     LongSetup,
     Handshake,
+    SetupAlike,
+    TickAlike,
+    SetupUnlike,
 ];
 
 impl Call {
@@ -83,6 +94,9 @@ impl Call {
             DamagedTable => "damaged table (1)".into(),
             LongSetup => "repeated setup of 4, 255 B".into(),
             Handshake => "setup, response, end".into(),
+            SetupAlike => "repeated setup, all alike".into(),
+            TickAlike => "tick, all alike".into(),
+            SetupUnlike => "repeated setup, all unlike".into(),
         }
     }
 
@@ -95,11 +109,37 @@ impl Call {
         }
     }
 
-    /// How many entries the caller holds.
-    fn held(self) -> usize {
+    fn is_tick(self) -> bool {
+        matches!(self, Tick | TickAlike)
+    }
+
+    fn is_repeated_setup(self) -> bool {
+        matches!(self, Setup | LongSetup | SetupAlike | SetupUnlike)
+    }
+
+    /// Where one client holds every slot: the byte in which its names differ.
+    fn differ_at(self) -> Option<usize> {
         match self {
-            Handshake => 3,
+            SetupAlike | TickAlike => Some(253),
+            SetupUnlike => Some(1),
+            _ => None,
+        }
+    }
+
+    /// How many entries the caller holds.
+    fn held(self, slots: usize) -> usize {
+        match (self, self.differ_at()) {
+            (_, Some(_)) => slots,
+            (Handshake, _) => 3,
             _ => self.questions().max(2),
+        }
+    }
+
+    /// Which of its questions the caller asks: the first ones, or where it holds every slot the last.
+    fn asked(self, held: usize) -> Range<usize> {
+        match self.differ_at() {
+            Some(_) => held - 1..held,
+            None => 0..self.questions(),
         }
     }
 
@@ -113,8 +153,9 @@ impl Call {
 
     /// The wire names of a client's first questions.
     fn names(self, client: Client, questions: usize) -> Vec<Vec<u8>> {
-        let name = |question| match self {
-            LongSetup => client.long_name(question),
+        let name = |question| match (self, self.differ_at()) {
+            (_, Some(at)) => client.long_name_by(at, question),
+            (LongSetup, _) => client.long_name(question),
             _ => client.name(question),
         };
         (0..questions).map(name).collect()
@@ -158,6 +199,14 @@ impl Client {
     fn long_name(self, question: usize) -> Vec<u8> {
         let label = "MuSeUm".repeat(11);
         self.wire_name(question, &[&label[..63], &label[..63], &label[..63], &label[..51]])
+    }
+
+    /// The long name of its first question with another byte in one place, from a on for 64 questions:
+    /// no capitals.
+    fn long_name_by(self, at: usize, question: usize) -> Vec<u8> {
+        let mut name = self.long_name(0);
+        name[at] = b'a' + question as u8;
+        name
     }
 
     fn wire_name(self, question: usize, labels: &[&str]) -> Vec<u8> {
@@ -249,7 +298,7 @@ impl Work {
     /// The answer's number, and the length of its reply or how many entries it freed; of several
     /// answers the greatest number and the lengths together.
     fn run(&mut self, side: &dyn Server) -> (u32, u32) {
-        if let Tick = self.call {
+        if self.call.is_tick() {
             let ticked = side.tick(WEEK, NOW, &mut self.table);
             return (ticked.number, ticked.freed);
         }
@@ -272,9 +321,25 @@ impl Work {
         exchange.granted()
     }
 
-    /// The caller's next question set up, answered by the number that it is given, and ended.
-    fn handshake(&self) -> Vec<Vec<u8>> {
-        let name = [self.from.name(self.call.held())];
+    /// The same for any number of questions, in datagrams of up to four.
+    fn all_served(
+        &mut self,
+        opcode: u16,
+        names: &[Vec<u8>],
+        numbers: &[u64],
+        second: u32,
+    ) -> Vec<u64> {
+        let datagrams = names.chunks(4).zip(numbers.chunks(4));
+        datagrams
+            .flat_map(|(names, numbers)| {
+                self.served(self.from.query(opcode, names, numbers, LEASE), second)
+            })
+            .collect()
+    }
+
+    /// A question of the caller's set up, answered by the number that it is given, and ended.
+    fn handshake(&self, question: usize) -> Vec<Vec<u8>> {
+        let name = [self.from.name(question)];
         let query = |opcode, number, lease| self.from.query(opcode, &name, &[number], lease);
         let setup = query(SETUP, 0, LEASE);
         let number = self.clone().served(setup.clone(), NOW)[0];
@@ -288,21 +353,22 @@ impl Work {
 }
 
 /// A table filled by the oracle, and what is timed on it. Every client has 2 or 3 entries; the one
-/// who calls comes last and has 4 where it asks for 4. Every slot is taken but for one where a new
-/// question is set up.
+/// who calls comes last and has 4 where it asks for 4, or has all. Every slot is taken but for one
+/// where a new question is set up.
 fn work(call: Call, slots: usize) -> Work {
     let mut holdings = Vec::new();
-    let mut left = slots - call.free() - call.held();
+    let own = call.held(slots);
+    let mut left = slots - call.free() - own;
     while left > 0 {
         holdings.push(left.min(2 + holdings.len() % 2));
         left -= holdings.last().expect("just pushed");
     }
-    holdings.push(call.held());
+    holdings.push(own);
 
     // Listed: who calls, the first two clients, and one who holds nothing.
     let last = holdings.len() - 1;
     let mut roster = Vec::new();
-    for (at, limit) in [(last, 8), (0, 4), (1, 16), (200, 2)] {
+    for (at, limit) in [(last, own.max(8) as u8), (0, 4), (1, 16), (200, 2)] {
         let held = holdings.get(at).map_or(0, |&held| held as u8);
         let line = [&[3][..], &Client(at as u8).address(), &[held.min(2), limit]].concat();
         if !roster.chunks(19).any(|other| other[..17] == line[..17]) {
@@ -318,23 +384,24 @@ fn work(call: Call, slots: usize) -> Work {
         work.from = Client(at as u8);
         let second = MADE + 2 * at as u32;
         names = call.names(work.from, held);
-        numbers = work.served(work.from.query(SETUP, &names, &vec![0; held], LEASE), second);
-        work.served(work.from.query(SETUP, &names, &numbers, LEASE), second);
+        numbers = work.all_served(SETUP, &names, &vec![0; held], second);
+        work.all_served(SETUP, &names, &numbers, second);
     }
     assert_eq!(Oracle.tick(WEEK, NOW, &mut work.table).number, 0, "the clock moves on");
-    if let Setup | LongSetup = call {
+    if call.is_repeated_setup() {
         // At age 0 what remains is the granted lease, which an archive from before that rule tells.
-        work.served(work.from.query(REFRESH, &names, &numbers, LEASE), NOW);
+        work.all_served(REFRESH, &names, &numbers, NOW);
     }
 
-    let query = |opcode, numbers: &[u64], lease| work.from.query(opcode, &names, numbers, lease);
-    let asked = &numbers[..call.questions()];
+    let asked = call.asked(own);
+    let (names, numbers) = (&names[asked.clone()], &numbers[asked]);
+    let query = |opcode, numbers: &[u64], lease| work.from.query(opcode, names, numbers, lease);
     let queries = match call {
-        Setup | LongSetup => vec![query(SETUP, &vec![0; asked.len()], LEASE)],
+        _ if call.is_repeated_setup() => vec![query(SETUP, &vec![0; numbers.len()], LEASE)],
         // The granted lease, which every rule takes.
-        Response => vec![query(SETUP, asked, LEASE)],
-        Handshake => work.handshake(),
-        _ => vec![query(REFRESH, asked, 3_600)],
+        Response => vec![query(SETUP, numbers, LEASE)],
+        Handshake => work.handshake(own),
+        _ => vec![query(REFRESH, numbers, 3_600)],
     };
     work.exchanges = queries.into_iter().map(Exchange::new).collect();
     match call {
@@ -361,7 +428,7 @@ fn agreed(call: Call, slots: usize) -> Result<Work, String> {
     let answer = left.run(&Oracle);
     assert_eq!(answer.0, call.number(), "the number that the workload is for");
     match call {
-        Tick => assert_eq!(answer.1, 0, "no entry runs out"),
+        _ if call.is_tick() => assert_eq!(answer.1, 0, "no entry runs out"),
         DamagedDatagram | DamagedTable => assert!(left.table == given.table, "refused"),
         _ => {
             let sent: usize = left.exchanges.iter().map(|exchange| exchange.datagram.len()).sum();
@@ -431,17 +498,18 @@ fn timed(work: &mut Work, timing: &Timing) -> [f64; SIDES.len()] {
 }
 
 fn run(timing: &Timing) -> Result<(), String> {
+    let [short, long] = [Client(0).name(0), Client(0).long_name(0)].map(|name| name.len());
     println!(
         "ns per call: the least of {} batches of about {} us, sides in turn\n\
          buffers: the same for all sides, not cleared between calls\n\
-         tables: every slot taken (one free where a question is set up and ended), names of {} \
-         bytes (all of {} where the row says so), 2 or 3 entries an address (4 for who asks for 4), \
-         3 or 4 roster lines\n\
+         tables: every slot taken (one free where a question is set up and ended), names of {short} \
+         bytes (all of {long} where the row says so), 2 or 3 entries an address (4 for who asks for \
+         4), 3 or 4 roster lines\n\
+         all alike, all unlike: one address and port has every slot, by names of {long} bytes that \
+         differ in the last letter, or in the first; who sets up again asks for the last slot's\n\
          {}: three calls, timed as one",
         timing.batches,
         timing.batch.as_micros(),
-        Client(0).name(0).len(),
-        Client(0).long_name(0).len(),
         Handshake.name(),
     );
     let mut all = Vec::new();

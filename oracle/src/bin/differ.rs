@@ -8,6 +8,8 @@
 //!                                 the bytes of FoldWrongAt and FoldWrongAtWhenComparing
 //! differ --replay FILE            one list, in the form of src/script.rs
 //!
+//! --before        an earlier archive takes the oracle's place: number, reply buffer and
+//!                 table of each call must be what it gives; with the feature `before`
 //! --out FILE      where a list that failed is written too
 //! --trace FILE    the list being run is written before each of its steps
 //! ```
@@ -30,6 +32,7 @@ struct Asked {
     calls: u64,
     seed: u64,
     own: bool,
+    before: bool,
     variants: bool,
     replay: Option<String>,
     out: Option<String>,
@@ -42,6 +45,7 @@ fn asked() -> Result<Asked, String> {
         calls: ENOUGH,
         seed: now.map_or(1, |since| since.as_nanos() as u64),
         own: false,
+        before: false,
         variants: false,
         replay: None,
         out: None,
@@ -55,6 +59,7 @@ fn asked() -> Result<Asked, String> {
             "--calls" => asked.calls = number(value()?)?,
             "--seed" => asked.seed = number(value()?)?,
             "--self" => asked.own = true,
+            "--before" => asked.before = true,
             "--variants" => asked.variants = true,
             "--replay" => asked.replay = Some(value()?),
             "--out" => asked.out = Some(value()?),
@@ -75,19 +80,32 @@ fn tested(own: bool) -> (Box<dyn Server>, &'static str) {
     (Box::new(Oracle), "the oracle itself")
 }
 
+/// What it is compared with beside the tally, and its name.
+fn reference(before: bool) -> Result<(Box<dyn Server>, &'static str), String> {
+    if !before {
+        return Ok((Box::new(Oracle), "oracle"));
+    }
+    #[cfg(feature = "before")]
+    return Ok((Box::new(oracle::server::Before), "earlier archive"));
+    #[cfg(not(feature = "before"))]
+    Err("--before: built without the feature `before`".into())
+}
+
 fn compared(asked: Asked) -> Result<bool, String> {
     let (server, name) = tested(asked.own);
-    println!("seed {}: {name} by oracle and tally", asked.seed);
+    let (reference, by) = reference(asked.before)?;
+    println!("seed {}: {name} by {by} and tally", asked.seed);
     let trace = match &asked.trace {
         Some(file) => Some(Trace(File::create(file).map_err(|error| format!("{file}: {error}"))?)),
         None => None,
     };
     let start = Instant::now();
-    let (coverage, failure) = runs::random_lists(&Oracle, &*server, asked.seed, asked.calls, trace);
+    let (coverage, failure) =
+        runs::random_lists(&*reference, &*server, asked.seed, asked.calls, trace);
     println!("{} calls in {:.1} s\n{coverage}", coverage.calls, start.elapsed().as_secs_f32());
     if let Some(failure) = failure {
         println!("DIFFERENCE: {}", failure.wrong);
-        let script = failure.script(&Oracle, &*server);
+        let script = failure.script(&*reference, &*server);
         println!("---- shortened list ----\n{script}---- end of list ----");
         if let Some(file) = asked.out {
             fs::write(&file, &script).map_err(|error| format!("{file}: {error}"))?;
@@ -103,9 +121,10 @@ fn compared(asked: Asked) -> Result<bool, String> {
     Ok(true)
 }
 
-/// For each variant, the calls it took by oracle and tally, and by the tally alone.
-fn told_apart(asked: Asked) -> bool {
-    println!("seed {}: wrong variants by oracle and tally, and by the tally alone", asked.seed);
+/// For each variant, the calls it took by reference and tally, and by the tally alone.
+fn told_apart(asked: Asked) -> Result<bool, String> {
+    let (reference, by) = reference(asked.before)?;
+    println!("seed {}: wrong variants by {by} and tally, and by the tally alone", asked.seed);
     let all = variants::all(asked.seed);
     let mut missed = 0;
     for (name, server) in &all {
@@ -116,7 +135,7 @@ fn told_apart(asked: Asked) -> bool {
             failure.map(|failure| (coverage.calls, failure.wrong))
         };
         let alone = calls(server).map_or("-".into(), |(calls, _)| calls.to_string());
-        match calls(&Oracle) {
+        match calls(&*reference) {
             Some((calls, wrong)) => {
                 let wrong: String = wrong.chars().take(60).collect();
                 println!("{calls:8}{alone:>8}  {name}: {wrong}");
@@ -128,15 +147,16 @@ fn told_apart(asked: Asked) -> bool {
         }
     }
     println!("{} of {} variants told apart", all.len() - missed, all.len());
-    missed == 0
+    Ok(missed == 0)
 }
 
-fn replayed(file: &str, own: bool) -> Result<bool, String> {
+fn replayed(file: &str, asked: &Asked) -> Result<bool, String> {
     let text = fs::read_to_string(file).map_err(|error| format!("{file}: {error}"))?;
     let steps = script::read(&text).map_err(|wrong| format!("{file}: {wrong}"))?;
-    let (server, name) = tested(own);
-    println!("{name} by oracle and tally, {} steps", steps.len());
-    Ok(match compare::first_fault(&Oracle, &*server, &steps) {
+    let (server, name) = tested(asked.own);
+    let (reference, by) = reference(asked.before)?;
+    println!("{name} by {by} and tally, {} steps", steps.len());
+    Ok(match compare::first_fault(&*reference, &*server, &steps) {
         Some((at, wrong)) => {
             println!("DIFFERENCE in step {}: {wrong}\n{}", at + 1, steps[at]);
             false
@@ -150,8 +170,8 @@ fn replayed(file: &str, own: bool) -> Result<bool, String> {
 
 fn main() -> ExitCode {
     let outcome = asked().and_then(|asked| match &asked.replay {
-        Some(file) => replayed(file, asked.own),
-        None if asked.variants => Ok(told_apart(asked)),
+        Some(file) => replayed(file, &asked),
+        None if asked.variants => told_apart(asked),
         None => compared(asked),
     });
     match outcome {

@@ -14,11 +14,13 @@
 //! T  tick
 //! S  serve; room is the reply buffer's length, the body the datagram
 //! D  print the table
+//! C  compare two names; room is the stored one's length, the body its bytes and the sent one's
 //! ```
 //!
 //! All calls are on one buffer, at first filled with 0xEE, of which the last
 //! making said how much is lent. Each reply buffer is filled with 0xAA first.
-//! `stdout` has a line for each record; a call's ends in a sum of the table's
+//! `stdout` has a line for each record, but two for each C, and none for a C
+//! whose room is more than its body. A call's line ends in a sum of the table's
 //! bytes, so that a changed byte shows:
 //!
 //! ```text
@@ -26,9 +28,15 @@
 //! tick NUMBER FREED SUM
 //! serve NUMBER LENGTH REPLY-BUFFER SUM
 //! table BYTES
+//! compare SAME PAIRS    the stored bytes with the sent ones folded
+//! stored SAME PAIRS     the stored bytes with the sent ones as they are
 //! ```
+//!
+//! SAME is 1 or 0, PAIRS how many byte pairs were looked at.
 
-use std::fmt::Write;
+use oracle::name::{compare_stored, Compared};
+use oracle::pairs;
+use oracle::rules::{Law, Rules};
 use std::fs;
 use std::path::Path;
 use std::process::ExitCode;
@@ -194,6 +202,15 @@ fn with<const N: usize>(bytes: &[u8], at: usize, new: [u8; N]) -> Vec<u8> {
     bytes
 }
 
+/// The bytes with a bit turned at each of these places: not the one that folding turns.
+fn differing_at(bytes: &[u8], places: &[usize]) -> Vec<u8> {
+    let mut bytes = bytes.to_vec();
+    for &at in places {
+        bytes[at] ^= [1, 2, 4, 8, 16, 64, 128][at % 7];
+    }
+    bytes
+}
+
 /// The records so far, and what they print.
 struct Script {
     buffer: Vec<u8>,
@@ -245,11 +262,16 @@ impl Script {
         self.record(kind, reading, Sender { high: 0, low: 0, port: 0 }, 0, room, body);
     }
 
+    fn print(&mut self, line: &str) {
+        self.stdout += line;
+        self.stdout += "\n";
+    }
+
     /// A call's line, and the sum of the table's bytes.
     fn line(&mut self, text: String) {
         let sum =
             self.table().iter().fold(0, |sum, &byte| (sum * 257 + u64::from(byte)) % 4_294_967_291);
-        writeln!(self.stdout, "{text} {sum}").expect("a string takes all");
+        self.print(&format!("{text} {sum}"));
     }
 
     /// Makes a table in a buffer of this length.
@@ -321,7 +343,28 @@ impl Script {
     fn dump(&mut self) {
         self.plain_record(b'D', (0, 0), 0, &[]);
         let bytes = hex(self.table());
-        writeln!(self.stdout, "table {bytes}").expect("a string takes all");
+        self.print(&format!("table {bytes}"));
+    }
+
+    /// Compares a stored name with one as sent: folded, and as it is.
+    fn compare(&mut self, stored: &[u8], sent: &[u8]) -> [Compared; 2] {
+        self.plain_record(b'C', (0, 0), stored.len(), &[stored, sent].concat());
+        let compared = [Law::same_name(stored, sent), compare_stored(stored, sent)];
+        for (word, Compared { same, pairs }) in ["compare", "stored"].into_iter().zip(compared) {
+            self.print(&format!("{word} {} {pairs}", u8::from(same)));
+        }
+        compared
+    }
+
+    /// Compares a name without capitals with itself.
+    fn compare_equal(&mut self, name: &[u8]) {
+        assert_eq!(self.compare(name, name), [Compared::same(name.len()); 2]);
+    }
+
+    /// Compares a name with one that differs from it at these places, the first of them first.
+    fn compare_differing(&mut self, name: &[u8], places: &[usize]) {
+        let differing = [Compared::differ(places[0] + 1); 2];
+        assert_eq!(self.compare(name, &differing_at(name, places)), differing);
     }
 }
 
@@ -956,6 +999,75 @@ fn names(s: &mut Script) {
     s.dump();
 }
 
+/// Names compared: the lengths first, then byte pairs, which are counted up to the first that differs.
+fn comparisons(s: &mut Script) {
+    // Short names, the root, the longest, a letter in its two cases.
+    for (stored, sent, compared) in pairs::rows() {
+        assert_eq!(s.compare(&stored, &sent), compared);
+    }
+
+    // Short of a word of eight bytes, whole words and some over: equal, and a difference at every place.
+    for length in (0..=10).chain(15..=17).chain([24, 40]) {
+        let name = pairs::bytes(length);
+        s.compare_equal(&name);
+        for at in 0..length {
+            s.compare_differing(&name, &[at]);
+        }
+    }
+
+    // The longest name: a difference at its ends, around the ends of words and in the middle of one.
+    let longest = pairs::longest();
+    for at in [0, 7, 8, 9, 40, 63, 64, 100, 127, 128, 191, 192, 247, 248, 253, 254] {
+        s.compare_differing(&longest, &[at]);
+    }
+
+    // Lengths that differ by one or by a word, one name the start of the other: no pair is looked at.
+    let by_one = [0, 1, 2, 3, 6, 7, 8, 9, 14, 15, 16, 17, 253, 254].map(|length| (length, 1));
+    let by_a_word = [0, 3, 8, 16, 247].map(|length| (length, 8));
+    for (length, more) in by_one.into_iter().chain(by_a_word) {
+        let (long, short) = (&longest[..length + more], &longest[..length]);
+        for (stored, sent) in [(short, long), (long, short)] {
+            assert_eq!(s.compare(stored, sent), [Compared::differ(0); 2]);
+        }
+    }
+
+    // Capitals sent: a difference that folding undoes.
+    let name = pairs::bytes(20);
+    let (same, differ) = (Compared::same(20), Compared::differ);
+    for (at, letter) in [0, 7, 8, 9, 15, 16, 19].into_iter().zip(*b"azmbynk") {
+        let capital = letter.to_ascii_uppercase();
+        let [stored, sent] = [letter, capital].map(|byte| with(&name, at, [byte]));
+        assert_eq!(s.compare(&stored, &sent), [same, differ(at + 1)]);
+    }
+    // Capitals stored: no sent byte is one, folded.
+    assert_eq!(s.compare(b"A", b"A"), [differ(1), Compared::same(1)]);
+    let stored = with(&name, 9, [b'Z']);
+    assert_eq!(s.compare(&stored, &stored), [differ(10), same]);
+    assert_eq!(s.compare(&stored, &with(&name, 9, [b'z'])), [differ(10); 2]);
+    // Neighbours of the letters, and letters past 127: as far apart as a letter's cases, but not folded.
+    for (one, other) in [(b'@', b'`'), (b'[', b'{'), (0xC1, 0xE1)] {
+        let [one, other] = [one, other].map(|byte| with(&name, 12, [byte]));
+        for (stored, sent) in [(&one, &other), (&other, &one)] {
+            assert_eq!(s.compare(stored, sent), [differ(13); 2]);
+            s.compare_equal(stored);
+        }
+    }
+    // Several differences, in one word and in two: the first one counts.
+    for places in [&[2, 5][..], &[8, 15], &[6, 7], &[7, 8], &[3, 11, 19], &[16, 17, 18, 19]] {
+        s.compare_differing(&name, places);
+    }
+    // A capital before a difference, and behind it.
+    for (capital, other) in [(2, 5), (13, 10), (7, 8)] {
+        let stored = with(&name, capital, [b'e']);
+        let sent = with(&differing_at(&stored, &[other]), capital, [b'E']);
+        let compared = [differ(other + 1), differ(other.min(capital) + 1)];
+        assert_eq!(s.compare(&stored, &sent), compared);
+    }
+
+    // A stored name longer than the body: nothing is compared.
+    s.plain_record(b'C', (0, 0), 4, b"\x01a\x00");
+}
+
 /// Versions, opcodes and errors that are not a server's to answer: errors 5 and 3.
 fn malformed_options(s: &mut Script) {
     s.make((140, 0), 4, &[]);
@@ -1062,7 +1174,7 @@ fn sixty_four_slots(s: &mut Script) {
 type List = (&'static str, fn(&mut Script));
 
 /// The lists in their order.
-const LISTS: [List; 26] = [
+const LISTS: [List; 27] = [
     ("nothing made", nothing_made),
     ("W11", w11),
     ("handshake", handshake),
@@ -1085,6 +1197,7 @@ const LISTS: [List; 26] = [
     ("numbers", numbers),
     ("count mismatch", count_mismatch),
     ("names", names),
+    ("comparisons", comparisons),
     ("malformed options", malformed_options),
     ("ignored", ignored),
     ("made again", made_again),
@@ -1115,7 +1228,7 @@ fn done() -> Result<bool, String> {
     };
     let script = all(!check);
     // The program reads no more than this.
-    assert!(script.stdin.len() < 65_536);
+    assert!(script.stdin.len() <= 131_072);
     let mut current = true;
     for (name, bytes) in [("stdin", &script.stdin[..]), ("stdout", script.stdout.as_bytes())] {
         let file = Path::new(folder).join(name);

@@ -4,6 +4,7 @@ use super::Named;
 use crate::calls::{self, Served, Ticked};
 use crate::clock::{self, Clock, CYCLE, SMALL_STEP_BACK};
 use crate::fault::Fault;
+use crate::name::{self, Compared};
 use crate::query::{LlqNumber, LlqOption, Question, Sender};
 use crate::rules::{error, Allowance, Law, Rules, UNLISTED};
 use crate::server::Server;
@@ -264,22 +265,25 @@ impl Rules for Bent {
         }
     }
 
-    fn same_name(stored: &[u8], received: &[u8]) -> bool {
-        let mut pairs = stored.iter().zip(received);
+    fn same_name(stored: &[u8], received: &[u8]) -> Compared {
         let folded = |byte| match now() {
             FoldWhenComparingOnly => Law::fold(byte),
             FoldWhenStoringOnly => byte,
             FoldWrongAtWhenComparing(wrong) if byte == wrong => byte ^ 0x20,
             _ => Self::fold(byte),
         };
-        let same = |(&stored, &byte): (&u8, &u8)| stored == folded(byte);
-        stored.len() == received.len()
-            && match now() {
-                NameButForItsLastByte => pairs.rev().skip(2).all(same),
-                NameFirst64Bytes => pairs.take(64).all(same),
-                NameLength => true,
-                _ => pairs.all(same),
-            }
+        let length = stored.len();
+        if received.len() != length {
+            return Compared::differ(0);
+        }
+        // How many bytes are compared, from the front.
+        let bytes = match now() {
+            NameButForItsLastByte => length.saturating_sub(2),
+            NameFirst64Bytes => length.min(64),
+            NameLength => 0,
+            _ => length,
+        };
+        name::compare(&stored[..bytes], &received[..bytes], folded)
     }
 
     fn same_holding(entry: Entry, sender: Sender, question: &Question) -> bool {
@@ -289,7 +293,7 @@ impl Rules for Bent {
             && (entry.port() == sender.port || wrong == HoldingAnyPort)
             && (entry.qtype() == question.qtype || wrong == HoldingAnyType)
             && (entry.qclass() == question.qclass || wrong == HoldingAnyClass)
-            && Self::same_name(entry.name(), question.name)
+            && Self::same_name(entry.name(), question.name).same
     }
 
     fn setup_finds(entry: Entry, sender: Sender, question: &Question) -> bool {
