@@ -1,8 +1,9 @@
 //! With the feature `linked`: links libllq.a from the folder that LLQ_LIB names.
 //! With the feature `bench`: compiles ../bench/plain.c and links it too. LLQ_PLAIN_SHIFT puts as many
 //! bytes before its code: its time depends on where it lies.
-//! With the feature `before`: links an earlier libllq.a, from the folder that LLQ_BEFORE names, its calls renamed. In both
-//! archives every function then starts at a multiple of 64 bytes, since a loop's time depends on where it lies.
+//! With the feature `before`: links an earlier libllq.a, from the folder that LLQ_BEFORE names, its calls renamed. With
+//! LLQ_ALIGN every function of both archives starts at a multiple of as many bytes, so that code which is the same in both
+//! lies alike: a loop's time depends on where it lies.
 
 use std::env;
 use std::fs;
@@ -12,8 +13,8 @@ use std::process::Command;
 fn main() {
     let with = |feature: &str| env::var_os(format!("CARGO_FEATURE_{feature}")).is_some();
     if with("BEFORE") {
-        aligned("LLQ_LIB", "llq");
-        aligned("LLQ_BEFORE", "before");
+        link_as("LLQ_LIB", "llq");
+        link_as("LLQ_BEFORE", "before");
     } else if with("LINKED") {
         let folder = folder_of("LLQ_LIB");
         println!("cargo:rustc-link-search=native={folder}");
@@ -33,16 +34,19 @@ fn folder_of(variable: &str) -> String {
     folder
 }
 
-/// That archive under this name, which its calls start with, its functions at multiples of 64 bytes.
-fn aligned(variable: &str, archive: &str) {
+/// That archive under this name, with which its calls start.
+fn link_as(variable: &str, archive: &str) {
     let from = folder_of(variable);
     let folder = PathBuf::from(env::var_os("OUT_DIR").expect("cargo sets OUT_DIR"));
     let renamed =
         ["make", "tick", "serve"].map(|call| format!("--redefine-sym=llq_{call}={archive}_{call}"));
     let to = folder.join(format!("lib{archive}.a"));
     let mut command = Command::new("objcopy");
-    command.arg("--set-section-alignment=.text.*=64").args(renamed);
-    run(command.arg(PathBuf::from(from).join("libllq.a")).arg(to));
+    println!("cargo:rerun-if-env-changed=LLQ_ALIGN");
+    if let Ok(align) = env::var("LLQ_ALIGN") {
+        command.arg(format!("--set-section-alignment=.text.*={align}"));
+    }
+    run(command.args(renamed).arg(PathBuf::from(from).join("libllq.a")).arg(to));
     println!("cargo:rustc-link-search=native={}", folder.display());
     println!("cargo:rustc-link-lib=static={archive}");
 }

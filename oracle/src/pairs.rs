@@ -13,23 +13,24 @@ pub fn bytes(length: usize) -> Vec<u8> {
     (0..length).map(|at| all[(73 + 141 * at) % all.len()]).collect()
 }
 
-/// The place of the longest name's last letter.
-const LAST_LETTER: usize = LONGEST - 2;
-
 /// A stored name of 255 bytes, with such bytes in its labels.
 pub fn longest() -> Vec<u8> {
     let mut name = bytes(LONGEST);
-    for (at, byte) in [(0, 63), (64, 63), (128, 63), (192, 61), (LAST_LETTER, b'y'), (254, 0)] {
+    for (at, byte) in [(0, 63), (64, 63), (128, 63), (192, 61), (254, 0)] {
         name[at] = byte;
     }
     name
 }
 
+/// A name of 255 bytes whose letters are a, but for the last.
+fn of_a(last: u8) -> Vec<u8> {
+    let label = [&[63][..], &[b'a'; 63]].concat();
+    [&label[..], &label, &label, &[61], &[b'a'; 60], &[last, 0]].concat()
+}
+
 /// Short names, the root, the longest name, and a letter in its two cases.
 pub fn rows() -> [Row; 9] {
-    let longest = longest();
-    let mut last_letter = longest.clone();
-    last_letter[LAST_LETTER] = b'z';
+    let [of_a, last_letter] = [b'a', b'b'].map(of_a);
     let rows: [(&[u8], &[u8], [Compared; 2]); 9] = [
         (b"\x01a\x00", b"\x01a\x00", [Compared::same(3); 2]),
         (b"\x00", b"\x00", [Compared::same(1); 2]),
@@ -39,8 +40,8 @@ pub fn rows() -> [Row; 9] {
         (b"\x01a\x01b\x00", b"\x01a\x01c\x00", [Compared::differ(4); 2]),
         // Another length.
         (b"\x01a\x00", b"\x02aa\x00", [Compared::differ(0); 2]),
-        (&longest, &longest, [Compared::same(255); 2]),
-        (&longest, &last_letter, [Compared::differ(254); 2]),
+        (&of_a, &of_a, [Compared::same(255); 2]),
+        (&of_a, &last_letter, [Compared::differ(254); 2]),
         // A capital sent.
         (b"\x01z\x00", b"\x01Z\x00", [Compared::same(3), Compared::differ(2)]),
     ];
@@ -66,6 +67,6 @@ mod tests {
     fn the_longest_name_is_one() {
         assert_eq!(longest().len(), 255);
         assert!(is_stored(&longest()));
-        assert!(longest()[LAST_LETTER].is_ascii_lowercase());
+        assert!(rows().iter().all(|(stored, ..)| is_stored(stored)));
     }
 }

@@ -19,7 +19,9 @@ impl Failure {
     /// The list as a script, shortened.
     pub fn script(&self, reference: &dyn Server, tested: &dyn Server) -> String {
         let steps = compare::shortened(reference, tested, &self.steps);
-        let mut text = String::from("# run again with: differ --replay FILE\n");
+        let mut text = String::from(
+            "# run again with: differ --replay FILE, and --before where that was the reference\n",
+        );
         for step in &steps {
             text += &format!("{step}\n");
         }

@@ -337,7 +337,7 @@ impl Tally {
         })
     }
 
-    /// How far a name is looked at, from its front, by one who leaves off at the first difference
+    /// How far a name is looked at, from its front, by one who stops at the first difference
     /// from a holding's of the same length. Only holdings count that the option fits but for its name.
     fn compared(&self, from: From, question: &Question, sent: &Sent) -> usize {
         let length = question.name.len();

@@ -136,10 +136,10 @@ pub clauses-independent : ClausesIndependent
 unfolding compared
 clauses-independent =
     record {
-      same = (comparisons-refuted .samePrefix, compares .lengths, compares .equal, compares .first);
-      lengths = (comparisons-refuted .countsPrefix, counting-same looked, (λ xs ys e. rw e (looked-all ys)), looked-first);
-      equal = (comparisons-refuted .withoutTheLast, counting-same looked, counting-lengths _, counting-first _ (λ xs ys d. rw (same-no xs ys d)));
-      first = (comparisons-refuted .withoutTheDiffering, counting-same looked, counting-lengths _, counting-equal _ (λ xs. rw (same-refl xs) (looked-all xs)));
+      same = (compares .lengths, compares .equal, compares .first);
+      lengths = (counting-same looked, (λ xs ys e. rw e (looked-all ys)), looked-first);
+      equal = (counting-same looked, counting-lengths _, counting-first _ (λ xs ys d. rw (same-no xs ys d)));
+      first = (counting-same looked, counting-lengths _, counting-equal _ (λ xs. rw (same-refl xs) (looked-all xs)));
     }
 
 pub compare-samples-hold : CompareSamples compared

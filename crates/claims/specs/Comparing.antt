@@ -92,12 +92,12 @@ pub record ComparisonsRefuted : Type 0 where
   pub countsPrefix : LengthsFirst countsPrefix → ⊥
   pub samePrefix : SaysSame samePrefix → ⊥
 
--- NONE OF THE FOUR FOLLOWS FROM THE OTHERS: for each there is a comparison that breaks it and meets the three
+-- NONE OF THE FOUR FOLLOWS FROM THE OTHERS: for each, one of these breaks it and meets the three
 pub record ClausesIndependent : Type 0 where
-  pub same : (SaysSame samePrefix → ⊥) × LengthsFirst samePrefix × LooksAtAll samePrefix × StopsAtFirst samePrefix
-  pub lengths : (LengthsFirst countsPrefix → ⊥) × SaysSame countsPrefix × LooksAtAll countsPrefix × StopsAtFirst countsPrefix
-  pub equal : (LooksAtAll withoutTheLast → ⊥) × SaysSame withoutTheLast × LengthsFirst withoutTheLast × StopsAtFirst withoutTheLast
-  pub first : (StopsAtFirst withoutTheDiffering → ⊥) × SaysSame withoutTheDiffering × LengthsFirst withoutTheDiffering × LooksAtAll withoutTheDiffering
+  pub same : LengthsFirst samePrefix × LooksAtAll samePrefix × StopsAtFirst samePrefix
+  pub lengths : SaysSame countsPrefix × LooksAtAll countsPrefix × StopsAtFirst countsPrefix
+  pub equal : SaysSame withoutTheLast × LengthsFirst withoutTheLast × StopsAtFirst withoutTheLast
+  pub first : SaysSame withoutTheDiffering × LengthsFirst withoutTheDiffering × LooksAtAll withoutTheDiffering
 
 -- SAMPLES: a stored name and a sent one, whether they are the same once the sent one is folded, and how many pairs are looked at
 pub record CompareSample : Type 0 where
@@ -105,8 +105,8 @@ pub record CompareSample : Type 0 where
   pub sent : List ℕ
   pub found : Compared
 
-abbrev pub with : List ℕ → List ℕ → Bool → ℕ → CompareSample
-with stored sent same pairs = record { stored = stored; sent = sent; found = record { same = same; pairs = pairs } }
+abbrev pub row : List ℕ → List ℕ → Bool → ℕ → CompareSample
+row stored sent same pairs = record { stored = stored; sent = sent; found = record { same = same; pairs = pairs } }
 
 -- the longest name, 255 bytes: labels of 63, 63, 63 and 61 letters, of which the last is given
 abbrev pub longest : ℕ → List ℕ
@@ -116,15 +116,15 @@ longest last =
 
 abbrev pub compareSamples : List CompareSample
 compareSamples =
-    with (1 ∷ 97 ∷ 0 ∷ []) (1 ∷ 97 ∷ 0 ∷ []) true 3
-    ∷ with (0 ∷ []) (0 ∷ []) true 1  -- the root
-    ∷ with (1 ∷ 97 ∷ 0 ∷ []) (1 ∷ 98 ∷ 0 ∷ []) false 2
-    ∷ with (1 ∷ 97 ∷ 1 ∷ 98 ∷ 0 ∷ []) (3 ∷ 97 ∷ 46 ∷ 98 ∷ 0 ∷ []) false 1  -- a.b of two labels and of one
-    ∷ with (1 ∷ 97 ∷ 1 ∷ 98 ∷ 0 ∷ []) (1 ∷ 97 ∷ 1 ∷ 99 ∷ 0 ∷ []) false 4
-    ∷ with (1 ∷ 97 ∷ 0 ∷ []) (2 ∷ 97 ∷ 97 ∷ 0 ∷ []) false 0  -- another length
-    ∷ with (longest 97) (longest 97) true 255
-    ∷ with (longest 97) (longest 98) false 254  -- the last letter differs, and the final zero is not looked at
-    ∷ with (1 ∷ 122 ∷ 0 ∷ []) (1 ∷ 90 ∷ 0 ∷ []) true 3  -- z and Z
+    row (1 ∷ 97 ∷ 0 ∷ []) (1 ∷ 97 ∷ 0 ∷ []) true 3
+    ∷ row (0 ∷ []) (0 ∷ []) true 1  -- the root
+    ∷ row (1 ∷ 97 ∷ 0 ∷ []) (1 ∷ 98 ∷ 0 ∷ []) false 2
+    ∷ row (1 ∷ 97 ∷ 1 ∷ 98 ∷ 0 ∷ []) (3 ∷ 97 ∷ 46 ∷ 98 ∷ 0 ∷ []) false 1  -- a.b of two labels and of one
+    ∷ row (1 ∷ 97 ∷ 1 ∷ 98 ∷ 0 ∷ []) (1 ∷ 97 ∷ 1 ∷ 99 ∷ 0 ∷ []) false 4
+    ∷ row (1 ∷ 97 ∷ 0 ∷ []) (2 ∷ 97 ∷ 97 ∷ 0 ∷ []) false 0  -- another length
+    ∷ row (longest 97) (longest 97) true 255
+    ∷ row (longest 97) (longest 98) false 254  -- the last letter differs, and the final zero is not looked at
+    ∷ row (1 ∷ 122 ∷ 0 ∷ []) (1 ∷ 90 ∷ 0 ∷ []) true 3  -- z and Z
     ∷ []
 
 abbrev pub ComparisonsAgree : Compare → List CompareSample → Type 0

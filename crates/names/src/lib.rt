@@ -72,7 +72,7 @@ fn compare_bytes(t: &[u8], a: usize, c: usize, n: usize) -> Compared
     }
 }
 
-// The stored name of m bytes at a and the stored one of n bytes at c; both are folded. Eight pairs that all agree are passed by one test of a
+// The stored name of m bytes at a and the stored one of n bytes at c, as they lie: both were folded when they were stored. Eight pairs that all agree are passed by one test of a
 // word, and all eight count; in the first word that differs, and behind the last whole word, pairs are looked at one by one. In a word that differs
 // the answer does not wait for the count, so that where the count is not read the compiler leaves it out.
 pub fn compare_stored(t: &[u8], a: usize, m: usize, c: usize, n: usize) -> Compared
@@ -97,10 +97,10 @@ pub fn compare_stored(t: &[u8], a: usize, m: usize, c: usize, n: usize) -> Compa
         }
         i += 1;
     }
-    let rest = compare_bytes(t, a + 8 * words, c + 8 * words, n % 8);
+    let rest = compare_bytes(t, a + 8 * i, c + 8 * i, n % 8);
     Compared {
         same: rest.same,
-        pairs: 8 * words + rest.pairs,
+        pairs: 8 * i + rest.pairs,
     }
 }
 

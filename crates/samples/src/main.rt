@@ -7,7 +7,7 @@
 //   S serve   room: the reply buffer's length; body: the datagram
 //   C compare room: the stored name's length; body: its bytes and then the sent name's
 //   D print the table
-// The list is cut where the table's length changes and before a record that is no call. Each piece is a script, which `script::run` carries out on
+// The list is cut where the table's length changes, before a C and before a D. Each piece is a script, which `script::run` carries out on
 // the lent part of the table; the lines are printed from its answers. A call's line ends in a sum of the table's bytes.
 ghost use Prim.Native.Nat.{_≤_, _<_};
 ghost use lib.ListN.{length};
@@ -133,14 +133,21 @@ fn say_compared(word: &[u8], r: names::Compared) {
     say(b"\n");
 }
 
-// The stored name is the first m bytes and the sent one the rest, folded and then as it lies.
-fn compare(s: &[u8], m: usize) {
-    if s.len() < m {
+// The stored name is the first m bytes of the body, which lies from index body to index end, and the sent one the rest: folded, and then as it
+// lies. The two slices lent to the first differ, and no place in one is a place in the other.
+fn compare(s: &[u8], body: usize, end: usize, m: usize)
+    requires { ⌜ (1 ≤ body) × (body ≤ end) × (end ≤ length (now s)) ⌝ }
+{
+    if end - body < m {
         return;
     }
-    let n = s.len() - m;
-    say_compared(b"compare", names::compare(s, 0, m, s, m, n));
-    say_compared(b"stored", names::compare_stored(s, 0, m, m, n));
+    let n = end - body - m;
+    let before = body - 1;
+    say_compared(
+        b"compare",
+        names::compare(&s[before..end], 1, m, s, body + m, n),
+    );
+    say_compared(b"stored", names::compare_stored(s, body, m, body + m, n));
 }
 
 // The length of the table that is lent: a making sets it, and it stays for the calls after.
@@ -153,7 +160,7 @@ fn lent(s: &[u8], at: usize, before: u16) -> u16
     before
 }
 
-// A piece ends before a record that is no call, and before a making of another length.
+// A piece ends before names to compare, before a table to print, and before a making of another length.
 fn cuts(s: &[u8], at: usize, n: u16) -> bool
     requires { ⌜ nextAt (now s) at ≤ length (now s) ⌝ }
 {
@@ -184,7 +191,7 @@ fn run_piece(s: &[u8], at: usize, n: u16, table: &mut [u8], answers: &mut [u8]) 
     let body = at + script::HEAD;
     let next = script::next(s, at);
     if s[at] == b'C' {
-        compare(&s[body..next], script::room(s, at) as usize);
+        compare(s, body, next, script::room(s, at) as usize);
     }
     if s[at] == b'D' {
         dump(&table[..k]);

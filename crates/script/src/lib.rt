@@ -62,7 +62,7 @@ pub fn next(s: &[u8], at: usize) -> usize
     at + HEAD + octets::get16(s, at + SIZE_AT) as usize
 }
 
-// A making's length of the table, or a datagram's of the reply buffer.
+// A making's length of the table, a datagram's of the reply buffer, or a number that another kind has there.
 pub fn room(s: &[u8], at: usize) -> u16
     requires { ⌜ nextAt (now s) at ≤ length (now s) ⌝ }
     ensures { λ r. ⌜ r ≡ roomAt (now (s .entry)) at ⌝ }

@@ -1015,8 +1015,9 @@ fn comparisons(s: &mut Script) {
         }
     }
 
-    // The longest name: a difference at its ends, around the ends of words and in the middle of one.
+    // The longest name: equal, and a difference at its ends, around the ends of words and in the middle of one.
     let longest = pairs::longest();
+    s.compare_equal(&longest);
     for at in [0, 7, 8, 9, 40, 63, 64, 100, 127, 128, 191, 192, 247, 248, 253, 254] {
         s.compare_differing(&longest, &[at]);
     }

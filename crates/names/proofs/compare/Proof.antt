@@ -1,4 +1,4 @@
--- `names::compare` meets its contract: other lengths; the bytes passed agree with the folded ones, and the first that differs decides. Assumes nothing.
+-- `names::compare` meets its contract: lengths that differ; the bytes passed agree with the folded ones, and the first that differs decides. Assumes nothing.
 use Prim.Native.Nat.{_-_, _≤_, _+_}
 use mathlib.Core.Path.{_≡_, refl, sym, _∙_}
 use mathlib.Core.List.{map}
@@ -7,7 +7,7 @@ use borrow.Author.Needs.{needs}
 use Rattle.model.specs.Numbers.{part}
 use Rattle.model.specs.Names.{fold}
 use Rattle.model.proofs.ListLaws.{length-map}
-use Rattle.model.proofs.CompareLaws.{parts-uneven, parts-agree, pair-differs}
+use Rattle.model.proofs.CompareLaws.{parts-other-lengths, parts-agree, pair-differs}
 use Rattle.names.specs.FoldTable.{foldTable}
 use Rattle.names.proofs.FoldLaws.{map-part, folded-at}
 use Rattle.names.proofs.PairLaws.{pair-agrees}
@@ -27,7 +27,7 @@ returns : tie.Need-returns Inv-loop μ-loop
 returns c =
     let x = c .before .before .before .args in
     let k = length-map fold (x .d .now) in
-    sym (rw (map-part fold (x .b) (x .n) (x .d .now)) (parts-uneven (x .t .now) (map fold (x .d .now)) (x .a) (x .b) (x .m) (x .n) (omega arith) (omega arith) (c .if1 .taken)))
+    sym (rw (map-part fold (x .b) (x .n) (x .d .now)) (parts-other-lengths (x .t .now) (map fold (x .d .now)) (x .a) (x .b) (x .m) (x .n) (omega arith) (omega arith) (c .if1 .taken)))
 
 loop-holds : tie.Need-loop-holds Inv-loop μ-loop
 unfolding part
