@@ -97,10 +97,10 @@ pub fn compare_stored(t: &[u8], a: usize, m: usize, c: usize, n: usize) -> Compa
         }
         i += 1;
     }
-    let rest = compare_bytes(t, a + 8 * i, c + 8 * i, n % 8);
+    let rest = compare_bytes(t, a + 8 * words, c + 8 * words, n % 8);
     Compared {
         same: rest.same,
-        pairs: 8 * i + rest.pairs,
+        pairs: 8 * words + rest.pairs,
     }
 }
 

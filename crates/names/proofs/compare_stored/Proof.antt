@@ -119,20 +119,20 @@ mul-t22 c = search needs
 
 add-t26 : tie.Need-add-t26 Inv-loop μ-loop
 add-t26 c =
-    let l = c .before .before .before .loop in
     let x = c .before .before .before .before .before .before .args in
     let e = ap (λ (z : Compared). z .pairs) (c .before .compare-bytes2 .ensures) in
-    let k = length-part (x .a + 8 * l .i) (x .n % 8) (x .t .now) (omega arith) in
-    omega (arith, e, k, pairs-most (part (x .a + 8 * l .i) (x .n % 8) (x .t .now)) (part (x .c + 8 * l .i) (x .n % 8) (x .t .now)))
+    let k = length-part (x .a + 8 * (x .n / 8)) (x .n % 8) (x .t .now) (omega arith) in
+    omega (arith, e, k, pairs-most (part (x .a + 8 * (x .n / 8)) (x .n % 8) (x .t .now)) (part (x .c + 8 * (x .n / 8)) (x .n % 8) (x .t .now)))
 
 returns-3 : tie.Need-returns-3 Inv-loop μ-loop
 returns-3 c =
     let l = c .before .before .before .loop in
     let x = c .before .before .before .before .before .before .args in
     let e = c .before .before .before .before .if1 .left in
+    let w : l .i ≡ x .n / 8 = omega arith in
     let f = ap (λ (z : Compared). z .same) (c .before .compare-bytes2 .ensures) in
     let g = ap (λ (z : Compared). z .pairs) (c .before .compare-bytes2 .ensures) in
-    sym (rw (e, f, g) (parts-behind (x .t .now) (x .t .now) (x .a) (x .c) (x .n) (8 * l .i) (x .n % 8) (omega arith) (omega arith) (omega arith) (l .inv .1)))
+    sym (rw (e, f, g) (parts-behind (x .t .now) (x .t .now) (x .a) (x .c) (x .n) (8 * (x .n / 8)) (x .n % 8) (omega arith) (omega arith) (omega arith) (rw w at (l .inv .1))))
 
 pub compare-stored-spec : {M : Type 1} → statement M
 compare-stored-spec =
