@@ -1,9 +1,8 @@
 //! With the feature `linked`: links libllq.a from the folder that LLQ_LIB names.
 //! With the feature `bench`: compiles ../bench/plain.c and links it too. LLQ_PLAIN_SHIFT puts as many
 //! bytes before its code: its time depends on where it lies.
-//! With the feature `before`: links an earlier libllq.a, from the folder that LLQ_BEFORE names, its calls renamed. With
-//! LLQ_ALIGN every function of both archives starts at a multiple of as many bytes, so that code which is the same in both
-//! lies alike: a loop's time depends on where it lies.
+//! With the feature `before`: links an earlier libllq.a, from the folder that LLQ_BEFORE names, its calls renamed. LLQ_SHIFT
+//! puts the code of both archives as many bytes behind a multiple of 64: their time too depends on where it lies.
 
 use std::env;
 use std::fs;
@@ -42,9 +41,14 @@ fn link_as(variable: &str, archive: &str) {
         ["make", "tick", "serve"].map(|call| format!("--redefine-sym=llq_{call}={archive}_{call}"));
     let to = folder.join(format!("lib{archive}.a"));
     let mut command = Command::new("objcopy");
-    println!("cargo:rerun-if-env-changed=LLQ_ALIGN");
-    if let Ok(align) = env::var("LLQ_ALIGN") {
-        command.arg(format!("--set-section-alignment=.text.*={align}"));
+    println!("cargo:rerun-if-env-changed=LLQ_SHIFT");
+    if let Ok(shift) = env::var("LLQ_SHIFT") {
+        // The section before those of the functions, which is empty.
+        let space = folder.join("space");
+        fs::write(&space, vec![0x90; shift.parse().expect("a number of bytes")]).expect("written");
+        command.arg(format!("--update-section=.text={}", space.display()));
+        command.arg("--set-section-alignment=.text=64");
+        println!("cargo:rustc-link-arg-bins=-Wl,--no-gc-sections");
     }
     run(command.args(renamed).arg(PathBuf::from(from).join("libllq.a")).arg(to));
     println!("cargo:rustc-link-search=native={}", folder.display());

@@ -134,7 +134,7 @@ fn say_compared(word: &[u8], r: names::Compared) {
 }
 
 // The stored name is the first m bytes of the body, which lies from index body to index end, and the sent one the rest: folded, and then as it
-// lies. The two slices lent to the first differ, and no place in one is a place in the other.
+// lies. Neither the two slices lent to the first are the same nor the places in them, so that one taken for the other shows.
 fn compare(s: &[u8], body: usize, end: usize, m: usize)
     requires { ⌜ (1 ≤ body) × (body ≤ end) × (end ≤ length (now s)) ⌝ }
 {
