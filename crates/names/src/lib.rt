@@ -72,9 +72,9 @@ fn compare_bytes(t: &[u8], a: usize, c: usize, n: usize) -> Compared
     }
 }
 
-// The stored name of m bytes at a and the stored one of n bytes at c, as they lie: both were folded when they were stored. Eight pairs that all agree are passed by one test of a
-// word, and all eight count; in the first word that differs, and behind the last whole word, pairs are looked at one by one. In a word that differs
-// the answer does not wait for the count, so that where the count is not read the compiler leaves it out.
+// The stored name of m bytes at a and the stored one of n bytes at c, as they lie: both were folded when they were stored. Eight pairs that all
+// agree are passed by one test of a word, and all eight count; in the first word that differs, and behind the last whole word, pairs are looked at
+// one by one. In a word that differs the answer does not wait for the count, so that where the count is not read the compiler leaves it out.
 pub fn compare_stored(t: &[u8], a: usize, m: usize, c: usize, n: usize) -> Compared
     requires { ⌜ (a + m ≤ length (now t)) × (c + n ≤ length (now t)) ⌝ }
     ensures { λ r. ⌜ comparedOf r ≡ compared (part a m (now (t .entry))) (part c n (now (t .entry))) ⌝ }
