@@ -29,7 +29,7 @@ reorder true true true false qclass name = refl
 reorder true true true true qclass name = refl
 
 module _ (b : List ℕ) (bytes : Bytes b) (at : ℕ) (s : Sender) (low : s .low < 2 ^ 64) (d : List ℕ) (q : Question) where
-  pub asks-are : asks (senderOf s .address) (s .port) (questionOf d q) (holdingAt b at)
+  pub asks-are : asks (senderOf s .address) (s .port) (questionOf d q) (holdingAt 0 b at)
       ≡ sameFields (entryAt b at) s q && same (part (at + 40) (entryAt b at .len) b) (map fold (part (q .start) (q .len) d))
   unfolding holdingAt readEntry entryAt
   asks-are =

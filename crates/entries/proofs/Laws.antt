@@ -1,25 +1,22 @@
 -- Laws for loops over a table's slots: what is found, what is in use, what is full. Assumes nothing.
-use Prim.Native.Nat.{ℕ, zero, suc, _+_, _-_, _%_, _^_, _≤_, _<_}
+use Prim.Native.Nat.{ℕ, zero, suc, _+_, _-_, _*_, _%_, _^_, _≤_, _<_}
 use native.Mathlib.Omega.{arith}
 use borrow.Author.Tests.{le-leb, lt-leb, lt-ltb, le-ltb, ltb-true, ltb-false}
 use mathlib.Core.Path.{_≡_, refl, sym, ap, _∙_}
 use mathlib.Core.Logic.{_≢_}
 use mathlib.Core.Bool.{Bool, true, false, not, cond, _&&_, _||_, and-false, true≢false}
 use mathlib.Core.List.{List}
-use lib.ListN.{length, getD}
+use lib.ListN.{getD}
 use lib.Dec.{eqb, leb, ltb}
 use Rattle.model.specs.Lists.{count, any, indexOf}
-use Rattle.model.specs.Numbers.{bigEndian}
 use Rattle.model.specs.Clock.{ageAt}
-use Rattle.model.specs.Table.{Slot, free, held, slotAt, sizeOf, readEntry, readSlot, readTable, listed}
-use Rattle.model.specs.Rules.{Holding, holding, holdings, heldBy, numbered, Counts, shareOf, limitOf, reserve, full, freshNumber}
-use Rattle.model.specs.Serve.{inSpan, rightLease, has, findEntry}
+use Rattle.model.specs.Table.{Slot, free, held, readEntry, readSlot}
+use Rattle.model.specs.Rules.{Holding, holding, heldBy, numbered, Counts, shareOf, limitOf, reserve, full, freshNumber}
+use Rattle.model.specs.Serve.{inSpan, rightLease, has}
 use Rattle.model.proofs.ListLaws.{count-at, every-nil, every-next, every-not, index-upTo, index-upTo-none, length-upTo, getD-upTo, upTo-none}
 use Rattle.model.proofs.HoldingLaws.{count-entries}
-use Rattle.layout.specs.Shape.{inUse, slotsTo, linesTo}
+use Rattle.layout.specs.Shape.{inUse, slotsTo, linesTo, listedIn}
 use Rattle.layout.specs.Held.{heldTo}
-use Rattle.layout.proofs.LayoutLaws.{roster-read, slots-read, holdings-read}
-use Rattle.layout.proofs.ReadLaws.{running-read}
 use Rattle.record.specs.declared.State.{State}
 use Rattle.record.specs.State.{hasEntry, isEstablished}
 use Rattle.record.proofs.StateLaws.{kind-in, established-is}
@@ -49,10 +46,10 @@ module _ (r : ℕ) (p : Holding → Bool) (b : List ℕ) (at : ℕ) where
 pub has-never : (r : ℕ) (p : Holding → Bool) (b : List ℕ) (at : ℕ) → p (holding r (readEntry b at)) ≡ false → has r p (readSlot b at) ≡ false
 has-never r p b at e = has-is r p b at ∙ rw e (and-false (inUse (getD b at 0)))
 
--- two tests that agree on the slot's entry
-pub has-same : (r : ℕ) (p q : Holding → Bool) (b : List ℕ) (at : ℕ) → p (holding r (readEntry b at)) ≡ q (holding r (readEntry b at))
-    → has r p (readSlot b at) ≡ has r q (readSlot b at)
-has-same r p q b at e = has-is r p b at ∙ ap (λ (v : Bool). inUse (getD b at 0) && v) e ∙ sym (has-is r q b at)
+-- two tests that agree on the slot's entry, each at its running count
+pub has-same : (r k : ℕ) (p q : Holding → Bool) (b : List ℕ) (at : ℕ) → p (holding r (readEntry b at)) ≡ q (holding k (readEntry b at))
+    → has r p (readSlot b at) ≡ has k q (readSlot b at)
+has-same r k p q b at e = has-is r p b at ∙ ap (λ (v : Bool). inUse (getD b at 0) && v) e ∙ sym (has-is k q b at)
 
 -- AN ENTRY that is read
 module _ (b : List ℕ) (at : ℕ) (e : Entry) (h : e ≡ entryAt b at) where
@@ -71,35 +68,24 @@ module _ (b : List ℕ) (at : ℕ) (e : Entry) (h : e ≡ entryAt b at) where
   unfolding entryAt readEntry
   span-read r number lease = rw h
 
--- THE SLOTS OF A TABLE OF n
+-- n SLOTS, the first that passes a test
 
-module _ (b : List ℕ) (n : ℕ) (size : length b ≡ sizeOf n) where
-  -- the first that passes a test
-  module _ (q : Slot → Bool) where
-    pub index-here : (i : ℕ) → i < n → noneTo b q i → q (readSlot b (slotAt i)) ≡ true → indexOf q (readTable b .slots) ≡ i
-    unfolding noneTo
-    index-here i l e t = ap (indexOf q) (slots-read b n size) ∙ index-upTo q n i (λ j. readSlot b (slotAt j)) e t l
+module _ (b : List ℕ) (n : ℕ) (q : Slot → Bool) where
+  pub index-here : (i : ℕ) → i < n → noneTo b q i → q (readSlot b (320 * i)) ≡ true → indexOf q (slotsTo b n) ≡ i
+  unfolding noneTo
+  index-here i l e t = index-upTo q n i (λ j. readSlot b (320 * j)) e t l
 
-    pub index-none-here : noneTo b q n → indexOf q (readTable b .slots) ≡ n
-    unfolding noneTo
-    index-none-here e = ap (indexOf q) (slots-read b n size) ∙ index-upTo-none q n (λ j. readSlot b (slotAt j)) e
-
-  found : (p : Holding → Bool) (i : ℕ) → i < n → noneTo b (has (bigEndian b 5 4) p) i → slotHas b p i ≡ true
-      → findEntry p (readTable b) ≡ i
-  unfolding findEntry
-  found p i l e t = ap (λ (r : ℕ). indexOf (has r p) (readTable b .slots)) (running-read b) ∙ index-here (has (bigEndian b 5 4) p) i l e t
-
-  not-found : (p : Holding → Bool) → noneTo b (has (bigEndian b 5 4) p) n → findEntry p (readTable b) ≡ n
-  unfolding findEntry
-  not-found p e = ap (λ (r : ℕ). indexOf (has r p) (readTable b .slots)) (running-read b) ∙ index-none-here (has (bigEndian b 5 4) p) e
+  pub index-none-here : noneTo b q n → indexOf q (slotsTo b n) ≡ n
+  unfolding noneTo
+  index-none-here e = index-upTo-none q n (λ j. readSlot b (320 * j)) e
 
   -- a finder's two ways out
-  pub slot-found : (p : Holding → Bool) (i : ℕ) → i < n → noneTo b (has (bigEndian b 5 4) p) i → slotHas b p i ≡ true → (e : Entry) → e ≡ entryAt b (slotAt i)
-      → slot i e ≡ foundAt b n (findEntry p (readTable b))
-  slot-found p i l f g e h = rw (found p i l f g, lt-ltb i n l, h)
+  pub slot-found : (i : ℕ) → i < n → noneTo b q i → q (readSlot b (320 * i)) ≡ true → (e : Entry) → e ≡ entryAt b (320 * i)
+      → slot i e ≡ foundAt b n (indexOf q (slotsTo b n))
+  slot-found i l f g e h = rw (index-here i l f g, lt-ltb i n l, h)
 
-  pub nothing-found : (p : Holding → Bool) → noneTo b (has (bigEndian b 5 4) p) n → nothing ≡ foundAt b n (findEntry p (readTable b))
-  nothing-found p f = rw (not-found p f, le-ltb n n (omega arith))
+  pub nothing-found : noneTo b q n → nothing ≡ foundAt b n (indexOf q (slotsTo b n))
+  nothing-found f = rw (index-none-here f, le-ltb n n (omega arith))
 
 -- WHAT WAS FOUND, told by what a finder gave
 
@@ -115,10 +101,10 @@ abbrev entryIn : Entry → Found → Entry
 entryIn d (slot i e) = e
 entryIn d nothing = d
 
-pub found-is : (b : List ℕ) (n i j : ℕ) (e : Entry) → foundAt b n i ≡ slot j e → (j ≡ i) × (j < n) × (e ≡ entryAt b (slotAt j))
+pub found-is : (b : List ℕ) (n i j : ℕ) (e : Entry) → foundAt b n i ≡ slot j e → (j ≡ i) × (j < n) × (e ≡ entryAt b (320 * j))
 found-is b n i j e = go (ltb i n) refl
   where
-    go : (v : Bool) → ltb i n ≡ v → cond v (slot i (entryAt b (slotAt i))) nothing ≡ slot j e → (j ≡ i) × (j < n) × (e ≡ entryAt b (slotAt j))
+    go : (v : Bool) → ltb i n ≡ v → cond v (slot i (entryAt b (320 * i))) nothing ≡ slot j e → (j ≡ i) × (j < n) × (e ≡ entryAt b (320 * j))
     go true h g =
         let k : j ≡ i = sym (ap indexIn g) in
         (k, rw k (ltb-true i n h), rw k (sym (ap (entryIn e) g)))
@@ -127,58 +113,58 @@ found-is b n i j e = go (ltb i n) refl
 pub nothing-is : (b : List ℕ) (n i : ℕ) → foundAt b n i ≡ nothing → n ≤ i
 nothing-is b n i = go (ltb i n) refl
   where
-    go : (v : Bool) → ltb i n ≡ v → cond v (slot i (entryAt b (slotAt i))) nothing ≡ nothing → n ≤ i
+    go : (v : Bool) → ltb i n ≡ v → cond v (slot i (entryAt b (320 * i))) nothing ≡ nothing → n ≤ i
     go true h g = absurd (true≢false (ap isSlot g))
     go false h g = ltb-false i n h
 
 -- none of the slots below i, and so none below i + 1
 pub none-yet : (b : List ℕ) (q : Slot → Bool) → noneTo b q 0
 unfolding noneTo
-none-yet b q = rw (upTo-none (λ j. readSlot b (slotAt j))) (every-nil (λ s. not (q s)))
+none-yet b q = rw (upTo-none (λ j. readSlot b (320 * j))) (every-nil (λ s. not (q s)))
 
-pub none-still : (b : List ℕ) (q : Slot → Bool) (i : ℕ) → q (readSlot b (slotAt i)) ≡ false → noneTo b q i
+pub none-still : (b : List ℕ) (q : Slot → Bool) (i : ℕ) → q (readSlot b (320 * i)) ≡ false → noneTo b q i
     → noneTo b q (i + 1)
 unfolding noneTo
-none-still b q i f e = rw (every-next i (λ j. readSlot b (slotAt j)) (λ s. not (q s)), e, f)
+none-still b q i f e = rw (every-next i (λ j. readSlot b (320 * j)) (λ s. not (q s)), e, f)
 
 -- A NUMBER IN USE
 
-count-held : (b : List ℕ) (n : ℕ) → length b ≡ sizeOf n → (p : Holding → Bool) → count (holdings (readTable b)) p ≡ count (slotsTo b n) (has (bigEndian b 5 4) p)
+count-held : (b : List ℕ) (n : ℕ) (p : Holding → Bool) → count (heldTo 0 b n) p ≡ count (slotsTo b n) (has 0 p)
 unfolding heldTo
-count-held b n size p = ap (λ (hs : List Holding). count hs p) (holdings-read b n size) ∙ count-entries (bigEndian b 5 4) (slotsTo b n) p
+count-held b n p = count-entries 0 (slotsTo b n) p
 
-pub used-hit : (b : List ℕ) (n : ℕ) → length b ≡ sizeOf n → (p : Holding → Bool) (i : ℕ) → i < n → slotHas b p i ≡ true → leb 1 (count (holdings (readTable b)) p) ≡ true
-used-hit b n size p i l t =
-    let f : ℕ → Slot = λ j. readSlot b (slotAt j) in
-    let h : 1 ≤ count (slotsTo b n) (has (bigEndian b 5 4) p) =
-    count-at (slotsTo b n) i free (has (bigEndian b 5 4) p) (rw (length-upTo n f) l) (ap (has (bigEndian b 5 4) p) (getD-upTo n f i free l) ∙ t)
-    in
-    rw (count-held b n size p) (le-leb _ _ h)
+pub used-hit : (b : List ℕ) (n : ℕ) (p : Holding → Bool) (i : ℕ) → i < n → slotHas 0 b p i ≡ true → leb 1 (count (heldTo 0 b n) p) ≡ true
+used-hit b n p i l t =
+    let f : ℕ → Slot = λ j. readSlot b (320 * j) in
+    let h : 1 ≤ count (slotsTo b n) (has 0 p) = count-at (slotsTo b n) i free (has 0 p) (rw (length-upTo n f) l) (ap (has 0 p) (getD-upTo n f i free l) ∙ t) in
+    rw (count-held b n p) (le-leb _ _ h)
 
-pub used-none : (b : List ℕ) (n : ℕ) → length b ≡ sizeOf n → (p : Holding → Bool) → noneTo b (has (bigEndian b 5 4) p) n
-    → leb 1 (count (holdings (readTable b)) p) ≡ false
+pub used-none : (b : List ℕ) (n : ℕ) (p : Holding → Bool) → noneTo b (has 0 p) n → leb 1 (count (heldTo 0 b n) p) ≡ false
 unfolding noneTo
-used-none b n size p e = rw (count-held b n size p, every-not (has (bigEndian b 5 4) p) (slotsTo b n) e)
+used-none b n p e = rw (count-held b n p, every-not (has 0 p) (slotsTo b n) e)
 
 -- SERV-FULL, from what the code has counted
-module _ (b : List ℕ) (n a : ℕ) (size : length b ≡ sizeOf n) {m h l : ℕ} (ms : m ≡ listed b 16) (hs : h ≡ count (heldTo b n) (heldBy a)) (ls : l ≡ limitOf (linesTo b m) a) where
+
+module _ (lines slots : List ℕ) (n a : ℕ) {m h l : ℕ} (ms : m ≡ listedIn lines 16) (hs : h ≡ count (heldTo 0 slots n) (heldBy a)) (ls : l ≡ limitOf (linesTo lines m) a) where
   room : Bool
-  room = leb (shareOf (linesTo b m) a) h && leb (n - count (heldTo b n) any) (reserve (linesTo b m) (count (heldTo b n)))
+  room = leb (shareOf (linesTo lines m) a) h && leb (n - count (heldTo 0 slots n) any) (reserve (linesTo lines m) (count (heldTo 0 slots n)))
 
-  full-is : full n (readTable b .roster) (count (holdings (readTable b))) a ≡ leb l h || room
+  abbrev fullNow : Bool
+  fullNow = full n (linesTo lines (listedIn lines 16)) (count (heldTo 0 slots n)) a
+
+  full-is : fullNow ≡ leb l h || room
   unfolding full room
-  full-is = rw (roster-read b, holdings-read b n size, ← ms, ← hs, ← ls)
+  full-is = rw (← ms, ← hs, ← ls)
 
-  pub full-limit : l ≤ h → full n (readTable b .roster) (count (holdings (readTable b))) a ≡ true
+  pub full-limit : l ≤ h → fullNow ≡ true
   full-limit t = full-is ∙ rw (le-leb l h t)
 
-  module _ (t : h < l) {s : ℕ} (ss : s ≡ shareOf (linesTo b m) a) where
-    pub full-share : h < s → full n (readTable b .roster) (count (holdings (readTable b))) a ≡ false
+  module _ (t : h < l) {s : ℕ} (ss : s ≡ shareOf (linesTo lines m) a) where
+    pub full-share : h < s → fullNow ≡ false
     unfolding room
     full-share u = full-is ∙ rw (lt-leb l h t, ← ss, lt-leb s h u)
 
-    pub full-room : s ≤ h → {e k : ℕ} → e ≡ count (heldTo b n) any → k ≡ reserve (linesTo b m) (count (heldTo b n))
-        → full n (readTable b .roster) (count (holdings (readTable b))) a ≡ leb (n - e) k
+    pub full-room : s ≤ h → {e k : ℕ} → e ≡ count (heldTo 0 slots n) any → k ≡ reserve (linesTo lines m) (count (heldTo 0 slots n)) → fullNow ≡ leb (n - e) k
     unfolding room
     full-room u es ks = full-is ∙ rw (lt-leb l h t, ← ss, le-leb s h u, ← es, ← ks)
 

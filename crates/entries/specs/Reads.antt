@@ -9,7 +9,7 @@ use Rattle.model.specs.Lists.{every}
 use Rattle.model.specs.Numbers.{bigEndian}
 use Rattle.model.specs.Query as query
 use Rattle.model.specs.Table as table
-use Rattle.model.specs.Table.{slotAt, readSlot}
+use Rattle.model.specs.Table.{readSlot}
 use Rattle.model.specs.Rules.{Holding}
 use Rattle.model.specs.Serve as serve
 use Rattle.model.specs.Serve.{has}
@@ -56,11 +56,11 @@ sameFields e s q =
 
 -- slot i of n as it is found, with its entry; nothing where there is no such slot
 abbrev pub foundAt : List ℕ → ℕ → ℕ → Found
-foundAt b n i = cond (ltb i n) (Slot i (entryAt b (slotAt i))) Nothing
+foundAt b n i = cond (ltb i n) (Slot i (entryAt b (320 * i))) Nothing
 
--- slot i has an entry that passes the test
-abbrev pub slotHas : List ℕ → (Holding → Bool) → ℕ → Bool
-slotHas b p i = has (bigEndian b 5 4) p (readSlot b (slotAt i))
+-- slot i has an entry that passes the test at this running count
+abbrev pub slotHas : ℕ → List ℕ → (Holding → Bool) → ℕ → Bool
+slotHas running b p i = has running p (readSlot b (320 * i))
 
 -- none of the slots below i passes the test
 unfoldable pub noneTo : List ℕ → (table.Slot → Bool) → ℕ → Type 0

@@ -1,7 +1,10 @@
 pub mod ShapeLaws
+pub mod ListedLaws
+pub mod PartLaws
 pub mod LayoutLaws
 pub mod ReadLaws
 pub mod HeldLaws
+pub mod AgeLaws
 pub mod LineLaws
 pub mod LimitLaws
 pub mod AddressLaws

@@ -1,5 +1,5 @@
 -- No address is past its limit exactly if none is at any entry, counted up to that entry. Assumes nothing.
-use Prim.Native.Nat.{ℕ, _+_, _≤_}
+use Prim.Native.Nat.{ℕ, _+_, _*_, _≤_}
 use native.Mathlib.Omega.{arith}
 use mathlib.Core.Path.{_≡_, refl, sym, ap, _∙_}
 use mathlib.Core.Bool.{Bool, true, false, cond, _&&_, and-true}
@@ -8,7 +8,7 @@ use lib.ListN.{getD}
 use lib.Dec.{eqb, leb}
 use borrow.Author.Tests.{eqb-true, eq-eqb, leb-true, le-leb}
 use Rattle.model.specs.Lists.{bit, count, every}
-use Rattle.model.specs.Table.{Line, slotAt}
+use Rattle.model.specs.Table.{Line}
 use Rattle.model.specs.Rules.{Holding, heldBy, limitOf}
 use Rattle.model.proofs.ListLaws.{iff, and-left, and-right, and-both, count-append}
 use Rattle.model.proofs.Facts.{within-all, all-within}
@@ -47,12 +47,13 @@ module _ (ls : List Line) where
         all-within ls (l ++ (z ∷ [])) (λ a. grown a f k))
 
   -- one slot more
-  pub within-next : (b : List ℕ) (i : ℕ) → every (within ls (heldTo b (i + 1))) (heldTo b (i + 1))
-      ≡ every (within ls (heldTo b i)) (heldTo b i) && okAt b (λ k. leb (count (heldTo b i) (heldBy (k .address)) + 1) (limitOf ls (k .address))) i
-  within-next b i = go (inUse (getD b (slotAt i) 0)) refl
-    where
-      go : (v : Bool) → inUse (getD b (slotAt i) 0) ≡ v → every (within ls (heldTo b (i + 1))) (heldTo b (i + 1))
-          ≡ every (within ls (heldTo b i)) (heldTo b i)
-          && cond v (leb (count (heldTo b i) (heldBy (holdingAt b (slotAt i) .address)) + 1) (limitOf ls (holdingAt b (slotAt i) .address))) true
-      go true e = ap (λ (hs : List Holding). every (within ls hs) hs) (held-hit b i e) ∙ within-snoc (heldTo b i) (holdingAt b (slotAt i))
-      go false e = ap (λ (hs : List Holding). every (within ls hs) hs) (held-miss b i e) ∙ sym (and-true (every (within ls (heldTo b i)) (heldTo b i)))
+  module _ (r : ℕ) where
+    pub within-next : (b : List ℕ) (i : ℕ) → every (within ls (heldTo r b (i + 1))) (heldTo r b (i + 1))
+        ≡ every (within ls (heldTo r b i)) (heldTo r b i) && okAt r b (λ k. leb (count (heldTo r b i) (heldBy (k .address)) + 1) (limitOf ls (k .address))) i
+    within-next b i = go (inUse (getD b (320 * i) 0)) refl
+      where
+        go : (v : Bool) → inUse (getD b (320 * i) 0) ≡ v → every (within ls (heldTo r b (i + 1))) (heldTo r b (i + 1))
+            ≡ every (within ls (heldTo r b i)) (heldTo r b i)
+            && cond v (leb (count (heldTo r b i) (heldBy (holdingAt r b (320 * i) .address)) + 1) (limitOf ls (holdingAt r b (320 * i) .address))) true
+        go true e = ap (λ (hs : List Holding). every (within ls hs) hs) (held-hit r b i e) ∙ within-snoc (heldTo r b i) (holdingAt r b (320 * i))
+        go false e = ap (λ (hs : List Holding). every (within ls hs) hs) (held-miss r b i e) ∙ sym (and-true (every (within ls (heldTo r b i)) (heldTo r b i)))

@@ -1,17 +1,19 @@
 -- What is read at a place of a table's bytes, and the table read back slot by slot. Assumes nothing.
-use Prim.Native.Nat.{ℕ, _<_}
+use Prim.Native.Nat.{ℕ, _-_, _*_, _<_}
 use native.Mathlib.Omega.{arith}
 use mathlib.Core.Path.{_≡_, refl, sym, ap, _∙_}
 use mathlib.Core.Bool.{true, false, _&&_}
 use mathlib.Core.List.{List}
-use lib.ListN.{length, getD}
+use lib.ListN.{length, getD, drop, length-drop}
 use lib.Dec.{eqb}
 use Rattle.model.specs.Numbers.{bigEndian, Bytes, part}
-use Rattle.model.specs.Table.{Slot, free, held, slotBytes, tableBytes, readTable, readSlot, readEntry, slotAt, listed, sizeOf, slotsIn}
+use Rattle.model.specs.Table.{Slot, free, held, slotBytes, tableBytes, readTable, readSlot, readEntry, base, lineAt, sizeOf, slotsIn}
 use Rattle.model.proofs.ListLaws.{and-right, same-refl, same-true, getD-upTo}
+use Rattle.model.proofs.NumberLaws.{bytes-drop}
 use Rattle.model.proofs.TableLaws.{length-table}
 use Rattle.model.proofs.Meaning.{fits-read, lines-read, slots-read}
-use Rattle.layout.specs.Shape.{inUse, all, slotShape, unusedFrom, tableShape}
+use Rattle.layout.specs.Shape.{inUse, all, slotShape, unusedFrom, listedIn, partsShape, tableShape}
+use Rattle.layout.proofs.PartLaws.{parts-read}
 use Rattle.layout.proofs.ShapeLaws.{all-at, slot-shape-is}
 use Rattle.layout.proofs.LayoutLaws.{layout-is}
 
@@ -32,9 +34,8 @@ module _ (b : List ℕ) where
   unfolding readTable
   running-read = refl
 
-  pub slot-read : (i : ℕ) (d : Slot) → i < slotsIn (length b) → getD (readTable b .slots) i d ≡ readSlot b (slotAt i)
-  unfolding readTable
-  slot-read i d l = getD-upTo (slotsIn (length b)) (λ j. readSlot b (slotAt j)) i d l
+  pub slot-read : (i : ℕ) (d : Slot) → i < slotsIn (length b) → getD (readTable b .slots) i d ≡ readSlot (drop base b) (320 * i)
+  slot-read i d l = rw (parts-read b) (getD-upTo (slotsIn (length b)) (λ j. readSlot (drop base b) (320 * j)) i d l)
 
 module _ (b : List ℕ) (bytes : Bytes b) where
   pub formed-length : length (tableBytes (readTable b)) ≡ sizeOf (slotsIn (length b))
@@ -48,13 +49,15 @@ module _ (b : List ℕ) (bytes : Bytes b) where
     pub formed-shape : tableShape b (slotsIn (length b)) ≡ true
     formed-shape = sym (layout-is b bytes (slotsIn (length b)) formed-size) ∙ (rw formed (same-refl b))
 
-    pub formed-slot : (i : ℕ) → i < slotsIn (length b) → slotBytes (readSlot b (slotAt i)) ≡ part (slotAt i) 320 b
-    unfolding tableShape
+    pub formed-slot : (i : ℕ) → i < slotsIn (length b) → slotBytes (readSlot (drop base b) (320 * i)) ≡ part (320 * i) 320 (drop base b)
+    unfolding tableShape partsShape
     formed-slot i l =
         let n = slotsIn (length b) in
+        let s = drop base b in
         let k = eqb (getD b 0 0) 1 in
-        let u = unusedFrom b (listed b 16) in
-        let a = all (λ j. slotShape b (slotAt j)) n in
-        let s : a ≡ true = and-right u a (and-right k (u && a) formed-shape) in
-        same-true (slotBytes (readSlot b (slotAt i))) (part (slotAt i) 320 b)
-        (slot-shape-is b bytes (slotAt i) (omega arith) ∙ all-at (λ j. slotShape b (slotAt j)) n i s l)
+        let u = unusedFrom (drop (lineAt 0) b) (listedIn (drop (lineAt 0) b) 16) in
+        let a = all (λ j. slotShape s (320 * j)) n in
+        let t : a ≡ true = and-right u a (and-right k (u && a) formed-shape) in
+        let z : length s ≡ length b - base = length-drop base b in
+        same-true (slotBytes (readSlot s (320 * i))) (part (320 * i) 320 s)
+        (slot-shape-is s (bytes-drop base b bytes) (320 * i) (omega (arith, formed-size)) ∙ all-at (λ j. slotShape s (320 * j)) n i t l)

@@ -1,14 +1,14 @@
 -- The reserve with one holding more. Assumes nothing.
-use Prim.Native.Nat.{ℕ, _+_, _-_, _≤_}
+use Prim.Native.Nat.{ℕ, _+_, _-_, _*_}
 use native.Mathlib.Omega.{arith}
-use mathlib.Core.Path.{_≡_, refl, sym, ap, _∙_}
-use mathlib.Core.Bool.{Bool, true, false, not, cond, _&&_}
+use mathlib.Core.Path.{_≡_, refl, ap, _∙_}
+use mathlib.Core.Bool.{Bool, true, false, not, cond}
 use mathlib.Core.List.{List, [], _∷_}
 use lib.ListN.{getD}
 use lib.Dec.{eqb, leb}
 use borrow.Author.Tests.{eqb-true, eq-eqb, leb-true, leb-false, le-leb, not-true}
 use Rattle.model.specs.Lists.{bit, count, any, every, noTwo}
-use Rattle.model.specs.Table.{Line, slotAt}
+use Rattle.model.specs.Table.{Line}
 use Rattle.model.specs.Rules.{heldBy, shareOf, shares, reserve, Counts}
 use Rattle.model.specs.Sound.{sameAddress}
 use Rattle.model.proofs.ListLaws.{and-left, and-right, eqb-sym}
@@ -61,15 +61,16 @@ module _ (c d : Counts) (a : ℕ) (step : (x : ℕ) → d (heldBy x) ≡ c (held
           rw q (own (leb (l .share) (c (heldBy a))) refl (omega (arith, step a)) (reserve-others ls (others l ls q n)))
       go false e n m = let o = other (l .address) e in omega arith
 
--- one slot more, with an entry: the reserve and the entries grow together by one where the address has reached its share
-pub reserve-held : (b : List ℕ) (ls : List Line) (i : ℕ) → inUse (getD b (slotAt i) 0) ≡ true → noTwo sameAddress ls ≡ true
-    → reserve ls (count (heldTo b (i + 1))) + count (heldTo b (i + 1)) any
-    ≡ reserve ls (count (heldTo b i)) + count (heldTo b i) any
-    + bit (leb (shareOf ls (holdingAt b (slotAt i) .address)) (count (heldTo b i) (heldBy (holdingAt b (slotAt i) .address))))
-reserve-held b ls i u h =
-    let m = reserve-more (count (heldTo b i)) (count (heldTo b (i + 1))) (holdingAt b (slotAt i) .address) (λ x. rw u at (count-next b i (heldBy x))) ls h in
-    let n = rw u at (count-next b i any) in
-    omega arith
+module _ (r : ℕ) where
+  -- one slot more, with an entry: the reserve and the entries grow together by one where the address has reached its share
+  pub reserve-held : (b : List ℕ) (ls : List Line) (i : ℕ) → inUse (getD b (320 * i) 0) ≡ true → noTwo sameAddress ls ≡ true
+      → reserve ls (count (heldTo r b (i + 1))) + count (heldTo r b (i + 1)) any
+      ≡ reserve ls (count (heldTo r b i)) + count (heldTo r b i) any
+      + bit (leb (shareOf ls (holdingAt r b (320 * i) .address)) (count (heldTo r b i) (heldBy (holdingAt r b (320 * i) .address))))
+  reserve-held b ls i u h =
+      let m = reserve-more (count (heldTo r b i)) (count (heldTo r b (i + 1))) (holdingAt r b (320 * i) .address) (λ x. rw u at (count-next r b i (heldBy x))) ls h in
+      let n = rw u at (count-next r b i any) in
+      omega arith
 
 -- before the first slot all shares are reserved
 all-shares : (ls : List Line) → shares ls ≡ reserve ls (count []) + 0
@@ -77,5 +78,5 @@ unfolding shares reserve
 all-shares [] = refl
 all-shares (l ∷ ls) = omega (arith, all-shares ls)
 
-pub reserve-start : (b : List ℕ) (ls : List Line) → shares ls ≡ reserve ls (count (heldTo b 0)) + count (heldTo b 0) any
-reserve-start b ls = rw held-none (all-shares ls)
+pub reserve-start : (r : ℕ) (b : List ℕ) (ls : List Line) → shares ls ≡ reserve ls (count (heldTo r b 0)) + count (heldTo r b 0) any
+reserve-start r b ls = rw held-none (all-shares ls)

@@ -1,35 +1,45 @@
 -- Soundness of bytes as what code tests, in its order. Assumes nothing.
-use Prim.Native.Nat.{ℕ, _≤_}
-use mathlib.Core.Path.{_≡_, refl}
+use Prim.Native.Nat.{ℕ, _*_, _≤_}
+use mathlib.Core.Path.{_≡_, refl, _∙_}
 use mathlib.Core.Bool.{Bool, true, false, _&&_, and-true, and-assoc}
 use mathlib.Core.List.{List}
-use lib.ListN.{length}
-use lib.Dec.{ltb}
+use lib.ListN.{length, getD, drop}
+use lib.Dec.{eqb, ltb}
 use borrow.Author.Tests.{le-leb}
 use Rattle.model.specs.Numbers.{bigEndian, Bytes}
-use Rattle.model.specs.Table.{readTable, readSlot, readLine, slotAt, lineAt, listed, sizeOf, slotsIn}
-use Rattle.model.specs.Sound.{Sound, soundRoster, soundHoldings, soundTable, soundBytes}
-use Rattle.model.proofs.ListLaws.{length-upTo}
-use Rattle.model.proofs.RoundTrip.{listed-le}
+use Rattle.model.specs.Clock.{cycle}
+use Rattle.model.specs.Table.{readTable, readSlot, readLine, base, lineAt, sizeOf, slotsIn}
+use Rattle.model.specs.Sound.{Sound, soundTable, soundBytes}
+use Rattle.model.proofs.ListLaws.{length-upTo, swap}
 use Rattle.model.proofs.Meaning.{bytes-back, table-sound, slots-read as slots-length}
-use Rattle.layout.specs.Shape.{tableShape, slotsTo, linesTo}
-use Rattle.layout.specs.Held.{heldTo}
+use Rattle.layout.specs.Shape.{partsShape, tableShape, slotsTo, linesTo, listedIn}
+use Rattle.layout.specs.Held.{heldTo, rulesOf}
 use Rattle.layout.proofs.ReadLaws.{place-read, running-read, formed-size}
-use Rattle.layout.proofs.LayoutLaws.{layout-is, roster-read, slots-read}
+use Rattle.layout.proofs.LayoutLaws.{layout-is}
+use Rattle.layout.proofs.PartLaws.{roster-read, slots-read}
+use Rattle.layout.proofs.ListedLaws.{listed-le}
 
 module _ (b : List ℕ) (bytes : Bytes b) where
   module _ (n : ℕ) (size : length b ≡ sizeOf n) (lo : 1 ≤ n) (hi : n ≤ 64) where
-    table-is : soundTable (readTable b) ≡ ltb (bigEndian b 1 4) 619315200 && (soundRoster n (linesTo b (listed b 16)) && soundHoldings n (linesTo b (listed b 16)) (heldTo b n))
+    abbrev lines : List ℕ
+    lines = drop (lineAt 0) b
+
+    abbrev slots : List ℕ
+    slots = drop base b
+
+    table-is : soundTable (readTable b) ≡ ltb (bigEndian b 1 4) cycle && rulesOf (bigEndian b 5 4) lines slots n
     unfolding soundTable heldTo
     table-is =
-        let ls : length (slotsTo b n) ≡ n = length-upTo n (λ j. readSlot b (slotAt j)) in
-        let lr : length (linesTo b (listed b 16)) ≡ listed b 16 = length-upTo (listed b 16) (λ j. readLine b (lineAt j)) in
-        rw (slots-read b n size, roster-read b, ls, lr, le-leb 1 n lo, le-leb n 64 hi, le-leb (listed b 16) 16 (listed-le b 16), place-read b, running-read b)
+        let m = listedIn lines 16 in
+        let ls : length (slotsTo slots n) ≡ n = length-upTo n (λ j. readSlot slots (320 * j)) in
+        let lr : length (linesTo lines m) ≡ m = length-upTo m (λ j. readLine lines (19 * j)) in
+        rw (slots-read b n size, roster-read b, ls, lr, le-leb 1 n lo, le-leb n 64 hi, le-leb m 16 (listed-le lines 16), place-read b, running-read b)
         (simp (and-true, and-assoc))
 
-    pub sound-is : soundBytes b ≡ tableShape b n && (ltb (bigEndian b 1 4) 619315200 && (soundRoster n (linesTo b (listed b 16)) && soundHoldings n (linesTo b (listed b 16)) (heldTo b n)))
-    unfolding soundBytes
-    sound-is = rw (layout-is b bytes n size, table-is)
+    -- the kind and the place of the clock's record; the rest by lines and slots
+    pub sound-is : soundBytes b ≡ eqb (getD b 0 0) 1 && (ltb (bigEndian b 1 4) cycle && (partsShape lines slots n && rulesOf (bigEndian b 5 4) lines slots n))
+    unfolding soundBytes tableShape
+    sound-is = rw (layout-is b bytes n size, table-is) (swap (eqb (getD b 0 0) 1) (partsShape lines slots n) (ltb (bigEndian b 1 4) cycle) (rulesOf (bigEndian b 5 4) lines slots n) ∙ simp and-assoc)
 
   -- a sound table's length
   pub sound-size : soundBytes b ≡ true → (length b ≡ sizeOf (slotsIn (length b))) × (1 ≤ slotsIn (length b)) × (slotsIn (length b) ≤ 64)

@@ -1,12 +1,13 @@
--- The kinds and zeros of the layout as tests at a place in the bytes: what code looks at. Assumes nothing.
+-- The kinds and zeros of the layout as tests at a place in the bytes: what code looks at. Lines and slots are looked at in the part of a table
+-- that starts with them, so that nothing said of them knows where that is. Assumes nothing.
 use Prim.Native.Nat.{ℕ, zero, suc, _+_, _-_, _*_}
-use mathlib.Core.Bool.{Bool, true, false, cond, _&&_, _||_}
+use mathlib.Core.Bool.{Bool, cond, _&&_, _||_}
 use mathlib.Core.List.{List}
-use lib.ListN.{getD, replicate}
+use lib.ListN.{getD, drop, replicate}
 use lib.Dec.{eqb}
 use Rattle.model.specs.Lists.{every, upTo, same}
 use Rattle.model.specs.Numbers.{part}
-use Rattle.model.specs.Table.{Slot, Line, lineAt, slotAt, readSlot, readLine, listed}
+use Rattle.model.specs.Table.{Slot, Line, base, lineAt, readSlot, readLine}
 
 -- each number below n passes
 unfoldable pub all : (ℕ → Bool) → ℕ → Bool
@@ -29,21 +30,26 @@ slotShape b at =
 unfoldable pub unusedShape : List ℕ → ℕ → Bool
 unusedShape b at = eqb (getD b at 0) 2 && zerosAt b (at + 1) 18
 
--- the slots below i, as the model has them
+-- the slots below i of the slots' part, as the model has them
 abbrev pub slotsTo : List ℕ → ℕ → List Slot
-slotsTo b i = upTo i (λ j. readSlot b (slotAt j))
+slotsTo b i = upTo i (λ j. readSlot b (320 * j))
 
--- the first i lines from a base, and from the table's
-abbrev pub linesFrom : List ℕ → ℕ → ℕ → List Line
-linesFrom b base i = upTo i (λ j. readLine b (base + 19 * j))
-
+-- the first i lines of the lines' part, and of m lines how many of kind 3 stand first
 abbrev pub linesTo : List ℕ → ℕ → List Line
-linesTo b i = linesFrom b 9 i
+linesTo b i = upTo i (λ j. readLine b (19 * j))
 
--- the table's lines from m on are unused
+unfoldable pub listedIn : List ℕ → ℕ → ℕ
+listedIn b zero = 0
+listedIn b (suc m) = cond (eqb (listedIn b m) m && eqb (getD b (19 * m) 0) 3) (suc m) (listedIn b m)
+
+-- its lines from m on are unused
 unfoldable pub unusedFrom : List ℕ → ℕ → Bool
-unusedFrom b m = all (λ i. unusedShape b (lineAt m + 19 * i)) (16 - m)
+unusedFrom b m = all (λ i. unusedShape b (19 * m + 19 * i)) (16 - m)
+
+-- kinds, order and zeros of lines and n slots
+unfoldable pub partsShape : List ℕ → List ℕ → ℕ → Bool
+partsShape lines slots n = unusedFrom lines (listedIn lines 16) && all (λ i. slotShape slots (320 * i)) n
 
 -- kinds, order, lengths and zeros of a table with n slots
 unfoldable pub tableShape : List ℕ → ℕ → Bool
-tableShape b n = eqb (getD b 0 0) 1 && (unusedFrom b (listed b 16) && all (λ i. slotShape b (slotAt i)) n)
+tableShape b n = eqb (getD b 0 0) 1 && partsShape (drop (lineAt 0) b) (drop base b) n

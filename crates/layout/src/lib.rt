@@ -2,6 +2,7 @@
 ghost use mathlib.Core.Path.{_≡_};
 ghost use Rattle.model.specs.Table.{slotsIn};
 ghost use Rattle.model.specs.Calls.{tableLength};
+ghost use Rattle.layout.specs.Places.{LayoutFor};
 
 // Kinds of record.
 pub const CLOCK_KIND: u8 = 1;
@@ -76,14 +77,36 @@ pub const LINE_BODY: usize = LINE - 1;
 
 pub const SLOT_BODY: usize = SLOT - 1;
 
+// The length of the largest table.
+pub const TABLE_MOST: usize = SLOTS_AT + SLOT * SLOTS_MOST;
+
+// Where a table's lines and slots start, and how many slots there are; worked out once a call from the table's length.
+pub struct Layout {
+    pub lines_at: usize,
+    pub slots_at: usize,
+    pub n: usize,
+}
+
 // The slots of a table of this length.
-pub fn slots(size: usize) -> usize
+fn slots(size: usize) -> usize
     ensures { λ r. ⌜ r ≡ slotsIn size ⌝ }
 {
     if size < SLOTS_AT {
         return 0;
     }
     (size - SLOTS_AT) / SLOT
+}
+
+// The layout of a table of this length.
+pub fn of(size: usize) -> Layout
+    ensures { λ r. ⌜ LayoutFor r size ⌝ }
+{
+    let n = slots(size);
+    Layout {
+        lines_at: LINES_AT,
+        slots_at: SLOTS_AT,
+        n,
+    }
 }
 
 // The length is that of a table of 1 to 64 slots.

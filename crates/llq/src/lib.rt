@@ -1,5 +1,6 @@
 // Document 01's three calls, for a host in C: making, ticking, serving. Every refusal is decided before the first byte is written.
 use entries::Sender;
+use layout::Layout;
 use query::Query;
 use wire::HEADER_LEN;
 use wire::LlqNumber;
@@ -22,6 +23,7 @@ ghost use Rattle.model.specs.Meets.{MakeMeets, TickMeets, ServeMeets};
 ghost use Rattle.wire.specs.Records.{questionOf, optionOf};
 ghost use Rattle.query.specs.Whole.{QueryOf};
 ghost use Rattle.entries.specs.Reads.{senderOf};
+ghost use Rattle.layout.specs.Places.{LayoutFor};
 ghost use Rattle.table.specs.Written.{WellFormed, Written};
 ghost use Rattle.llq.specs.Answer.{Measures, Matches, QuestionsOf, OptionsOf, tableFrom, outcomeFrom, beforeOptions, Answers, refusedBy, answeredWith};
 
@@ -45,17 +47,17 @@ pub struct Ticked {
 pub extern "C" fn llq_make(week: u32, second: u32, t: &mut [u8], roster: &[u8]) -> u32
     ensures { λ r. ⌜ MakeMeets (record { week = week; second = second; roster = now (roster .entry) }) (now (t .entry)) (now (t .exit)) r ⌝ }
 {
-    let n = layout::slots(t.len());
-    if !layout::table_length(t.len(), n) {
+    let l = layout::of(t.len());
+    if !layout::table_length(t.len(), l.n) {
         return 1;
     }
     if !clock::valid(week, second) {
         return 2;
     }
-    if !sound::roster_sound(roster, n) {
+    if !sound::roster_sound(roster, l.n) {
         return 9;
     }
-    table::make_fresh(t, n, clock::place(week, second), roster);
+    table::make_fresh(t, l, clock::place(week, second), roster);
     0
 }
 
@@ -65,7 +67,8 @@ pub extern "C" fn llq_make(week: u32, second: u32, t: &mut [u8], roster: &[u8]) 
 pub extern "C" fn llq_tick(week: u32, second: u32, t: &mut [u8]) -> Ticked
     ensures { λ r. ⌜ TickMeets (record { week = week; second = second }) (now (t .entry)) (now (t .exit)) (r .number) (r .freed) ⌝ }
 {
-    if !sound::sound(t) {
+    let l = layout::of(t.len());
+    if !sound::sound(t, l) {
         return Ticked {
             number: 1,
             freed: 0,
@@ -77,7 +80,7 @@ pub extern "C" fn llq_tick(week: u32, second: u32, t: &mut [u8]) -> Ticked
             freed: 0,
         };
     }
-    let freed = table::move_on(t, clock::place(week, second));
+    let freed = table::move_on(t, l, clock::place(week, second));
     Ticked {
         number: 0,
         freed: freed as u32,
@@ -116,6 +119,7 @@ fn answered(len: usize) -> Served
 // An option served on the table as it stands, and written at its place in the reply.
 fn serve_one(
     t: &mut [u8],
+    l: Layout,
     reply: &mut [u8],
     at: usize,
     s: Sender,
@@ -124,10 +128,10 @@ fn serve_one(
     q: Question,
     o: LlqOption,
 )
-    requires { ⌜ WellFormed (now t) × (q .start + q .len ≤ length (now d)) × (q .len ≤ 255) × (at + 22 ≤ length (now reply)) ⌝ }
+    requires { ⌜ WellFormed (now t) × LayoutFor l (length (now t)) × (q .start + q .len ≤ length (now d)) × (q .len ≤ 255) × (at + 22 ≤ length (now reply)) ⌝ }
     ensures { λ _. ⌜ Written (now (t .exit)) (serveOption (senderOf s) r (questionOf (now (d .entry)) q) (optionOf o) (readTable (now (t .entry))) .table) × (now (reply .exit) ≡ splice at 22 (optionBytes (serveOption (senderOf s) r (questionOf (now (d .entry)) q) (optionOf o) (readTable (now (t .entry))) .outcome)) (now (reply .entry))) ⌝ }
 {
-    let x = options::serve_option(t, s, r, d, q, o);
+    let x = options::serve_option(t, l, s, r, d, q, o);
     let y = x.outcome;
     let number = options::number_of(x);
     let error = options::error_of(y);
@@ -138,6 +142,7 @@ fn serve_one(
 // The options in order, each on its question and on the table that those before it left.
 fn serve_each(
     t: &mut [u8],
+    l: Layout,
     reply: &mut [u8],
     d: &[u8],
     s: Sender,
@@ -147,7 +152,7 @@ fn serve_each(
     questions: [Question; 8],
     options: [LlqOption; 8],
 )
-    requires { ⌜ WellFormed (now t) × (n ≤ 8) × QuestionsOf (now d) n questions × OptionsOf (now d) n options × (end + 11 + 22 * n ≤ length (now reply)) ⌝ }
+    requires { ⌜ WellFormed (now t) × LayoutFor l (length (now t)) × (n ≤ 8) × QuestionsOf (now d) n questions × OptionsOf (now d) n options × (end + 11 + 22 * n ≤ length (now reply)) ⌝ }
     ensures { λ _. ⌜ Written (now (t .exit)) (tableFrom (senderOf s) r (now (d .entry)) (readTable (now (t .entry))) n) × (now (reply .exit) ≡ splice (end + 11) (22 * n) (flat optionBytes (upTo n (outcomeFrom (senderOf s) r (now (d .entry)) (readTable (now (t .entry)))))) (now (reply .entry))) ⌝ }
 {
     let at = end + OPT_LEN;
@@ -155,6 +160,7 @@ fn serve_each(
     while i < n {
         serve_one(
             t,
+            l,
             reply,
             at + OPTION_LEN * i,
             s,
@@ -186,8 +192,8 @@ fn put_before_options(
 }
 
 // As many options as questions: each is served.
-fn answer(t: &mut [u8], reply: &mut [u8], d: &[u8], s: Sender, r: u64, q: Query)
-    requires { ⌜ WellFormed (now t) × QueryOf (now d) q × (q .matched ≡ true) × (replyLength (now d) ≤ length (now reply)) ⌝ }
+fn answer(t: &mut [u8], l: Layout, reply: &mut [u8], d: &[u8], s: Sender, r: u64, q: Query)
+    requires { ⌜ WellFormed (now t) × LayoutFor l (length (now t)) × QueryOf (now d) q × (q .matched ≡ true) × (replyLength (now d) ≤ length (now reply)) ⌝ }
     ensures { λ _. ⌜ Answers (senderOf s) r (now (d .entry)) (now (t .entry)) (now (t .exit)) (now (reply .entry)) (now (reply .exit)) ⌝ }
 {
     let number = q.number;
@@ -196,7 +202,7 @@ fn answer(t: &mut [u8], reply: &mut [u8], d: &[u8], s: Sender, r: u64, q: Query)
     let count = q.count;
     let end = q.end;
     put_before_options(reply, d, number, q.desired, count, end, count as u16);
-    serve_each(t, reply, d, s, r, count, end, questions, options);
+    serve_each(t, l, reply, d, s, r, count, end, questions, options);
 }
 
 // The count and length test fails: no option is served, and the reply has one: opcode 1, error 3, number 0, lease 0.
@@ -229,7 +235,8 @@ pub extern "C" fn llq_serve(
 ) -> Served
     ensures { λ r. ⌜ ServeMeets (record { week = week; second = second; sender = record { address = high * 2 ^ 64 + low; port = port }; random = random; datagram = now (datagram .entry); room = length (now (reply .entry)) }) (now (t .entry)) (now (t .exit)) (now (reply .entry)) (now (reply .exit)) (r .number) (r .length) ⌝ }
 {
-    if !sound::sound(t) {
+    let l = layout::of(t.len());
+    if !sound::sound(t, l) {
         return refuse(1);
     }
     if !clock::valid(week, second) {
@@ -249,12 +256,12 @@ pub extern "C" fn llq_serve(
         return refuse(8);
     }
     let s = Sender { high, low, port };
-    table::move_on(t, clock::place(week, second));
+    table::move_on(t, l, clock::place(week, second));
     if !q.matched {
         let number = q.number;
         answer_mismatch(reply, datagram, number, q.desired, q.count, q.end);
         return answered(len);
     }
-    answer(t, reply, datagram, s, random, q);
+    answer(t, l, reply, datagram, s, random, q);
     answered(len)
 }

@@ -2,6 +2,7 @@
 use entries::Entry;
 use entries::Found;
 use entries::Sender;
+use layout::Layout;
 use record::State;
 use wire::LlqNumber;
 use wire::LlqOption;
@@ -9,13 +10,13 @@ use wire::Question;
 ghost use mathlib.Core.Path.{_≡_};
 ghost use Prim.Native.Nat.{_+_, _≤_};
 ghost use lib.ListN.{length};
-ghost use Rattle.model.specs.Numbers.{bigEndian};
 ghost use Rattle.model.specs.Clock.{ageAt};
 ghost use Rattle.model.specs.Table.{sizeOf, readTable};
 ghost use Rattle.model.specs.Rules.{grantedLease};
 ghost use Rattle.model.specs.Serve.{kindOfOption, lifeLeft, granted, serveSetup, serveResponse, serveRefresh, serveOption};
 ghost use Rattle.wire.specs.Records.{questionOf, optionOf};
 ghost use Rattle.entries.specs.Reads.{senderOf};
+ghost use Rattle.layout.specs.Places.{LayoutFor};
 ghost use Rattle.table.specs.Written.{WellFormed};
 ghost use Rattle.options.specs.Outcomes.{kindIn, outcomeError, outcomeLease, repeatedNumber, servedOutcome, servedWith, ServedAs};
 
@@ -86,12 +87,11 @@ fn granted_lease(asked: u32) -> u32
     asked
 }
 
-// The life that remains of a lease of this stamp: the lease less the age by the table's running count, 0 where the age is more.
-fn life_left(t: &[u8], lease: u32, stamp: u32) -> u32
-    requires { ⌜ 9 ≤ length (now t) ⌝ }
-    ensures { λ r. ⌜ r ≡ lifeLeft lease (ageAt (bigEndian (now (t .entry)) 5 4) stamp) ⌝ }
+// The life that remains of a lease of this stamp at this running count: the lease less the age, 0 where the age is more.
+fn life_left(running: u32, lease: u32, stamp: u32) -> u32
+    ensures { λ r. ⌜ r ≡ lifeLeft lease (ageAt running stamp) ⌝ }
 {
-    let age = clock::age(octets::get32(t, layout::RUNNING_AT), stamp);
+    let age = clock::age(running, stamp);
     if lease <= age {
         return 0;
     }
@@ -113,19 +113,21 @@ fn served(o: LlqOption, outcome: Outcome) -> ServedOption
 // A new question that is not full: the lowest free slot becomes pending.
 fn grant(
     t: &mut [u8],
-    n: usize,
+    l: Layout,
     s: Sender,
     r: u64,
     d: &[u8],
     q: Question,
     o: LlqOption,
 ) -> ServedOption
-    requires { ⌜ WellFormed (now t) × (length (now t) ≡ sizeOf n) × (q .start + q .len ≤ length (now d)) × (q .len ≤ 255) ⌝ }
+    requires { ⌜ WellFormed (now t) × LayoutFor l (length (now t)) × (length (now t) ≡ sizeOf (l .n)) × (q .start + q .len ≤ length (now d)) × (q .len ≤ 255) ⌝ }
     ensures { λ x. ⌜ ServedAs (granted (senderOf s) r (questionOf (now (d .entry)) q) (optionOf o) (readTable (now (t .entry)))) (now (t .exit)) x ⌝ }
 {
-    let number = entries::fresh_number(t, n, r);
+    let n = l.n;
+    let a = l.slots_at;
+    let number = entries::fresh_number(&t[a..], n, r);
     let lease = granted_lease(o.lease);
-    let j = entries::find_free(t, n);
+    let j = entries::find_free(&t[a..], n);
     if j >= n {
         return served(o, Outcome::Challenge(number, lease));
     }
@@ -141,56 +143,62 @@ fn grant(
         qclass: q.qclass,
         len: q.len as u8,
     };
-    table::put_entry(t, j, e, d, q.start as usize);
+    table::put_entry(&mut t[a..], j, e, d, q.start as usize);
     served(o, Outcome::Challenge(number, lease))
 }
 
 fn serve_setup(
     t: &mut [u8],
-    n: usize,
+    l: Layout,
     s: Sender,
     r: u64,
     d: &[u8],
     q: Question,
     o: LlqOption,
 ) -> ServedOption
-    requires { ⌜ WellFormed (now t) × (length (now t) ≡ sizeOf n) × (q .start + q .len ≤ length (now d)) × (q .len ≤ 255) ⌝ }
+    requires { ⌜ WellFormed (now t) × LayoutFor l (length (now t)) × (length (now t) ≡ sizeOf (l .n)) × (q .start + q .len ≤ length (now d)) × (q .len ≤ 255) ⌝ }
     ensures { λ x. ⌜ ServedAs (serveSetup (senderOf s) r (questionOf (now (d .entry)) q) (optionOf o) (readTable (now (t .entry)))) (now (t .exit)) x ⌝ }
 {
-    match entries::find_asked(t, n, s, d, q) {
+    let n = l.n;
+    let a = l.slots_at;
+    match entries::find_asked(&t[a..], n, s, d, q) {
         Found::Slot(_, e) => {
             let number = e.number;
+            let running = octets::get32(t, layout::RUNNING_AT);
             served(
                 o,
-                Outcome::Challenge(number, life_left(t, e.lease, e.stamp)),
+                Outcome::Challenge(number, life_left(running, e.lease, e.stamp)),
             )
         }
         Found::Nothing => {
-            if entries::is_full(t, n, s.high, s.low) {
+            let f = l.lines_at;
+            if entries::is_full(&t[f..], &t[a..], n, s.high, s.low) {
                 return served(o, Outcome::Full);
             }
-            grant(t, n, s, r, d, q, o)
+            grant(t, l, s, r, d, q, o)
         }
     }
 }
 
 fn serve_response(
     t: &mut [u8],
-    n: usize,
+    l: Layout,
     s: Sender,
     d: &[u8],
     q: Question,
     o: LlqOption,
 ) -> ServedOption
-    requires { ⌜ WellFormed (now t) × (length (now t) ≡ sizeOf n) × (q .start + q .len ≤ length (now d)) ⌝ }
+    requires { ⌜ WellFormed (now t) × LayoutFor l (length (now t)) × (length (now t) ≡ sizeOf (l .n)) × (q .start + q .len ≤ length (now d)) ⌝ }
     ensures { λ x. ⌜ ServedAs (serveResponse (senderOf s) (questionOf (now (d .entry)) q) (optionOf o) (readTable (now (t .entry)))) (now (t .exit)) x ⌝ }
 {
     let asked = o.number;
-    match entries::find_answered(t, n, s, d, q, asked, o.lease) {
+    let a = l.slots_at;
+    let running = octets::get32(t, layout::RUNNING_AT);
+    match entries::find_answered(&t[a..], l.n, running, s, d, q, asked, o.lease) {
         Found::Slot(i, e) => {
             let number = e.number;
-            let left = life_left(t, e.lease, e.stamp);
-            table::establish_at(t, i);
+            let left = life_left(running, e.lease, e.stamp);
+            table::establish_at(&mut t[a..], i);
             served(o, Outcome::Established(number, left))
         }
         Found::Nothing => served(o, Outcome::NoSuchLlq(LlqNumber(0))),
@@ -199,25 +207,27 @@ fn serve_response(
 
 fn serve_refresh(
     t: &mut [u8],
-    n: usize,
+    l: Layout,
     s: Sender,
     d: &[u8],
     q: Question,
     o: LlqOption,
 ) -> ServedOption
-    requires { ⌜ WellFormed (now t) × (length (now t) ≡ sizeOf n) × (q .start + q .len ≤ length (now d)) ⌝ }
+    requires { ⌜ WellFormed (now t) × LayoutFor l (length (now t)) × (length (now t) ≡ sizeOf (l .n)) × (q .start + q .len ≤ length (now d)) ⌝ }
     ensures { λ x. ⌜ ServedAs (serveRefresh (senderOf s) (questionOf (now (d .entry)) q) (optionOf o) (readTable (now (t .entry)))) (now (t .exit)) x ⌝ }
 {
     let asked = o.number;
-    match entries::find_refreshed(t, n, s, d, q, asked) {
+    let a = l.slots_at;
+    match entries::find_refreshed(&t[a..], l.n, s, d, q, asked) {
         Found::Slot(i, e) => {
             let number = e.number;
             if o.lease == 0 {
-                table::end_entry(t, i);
+                table::end_entry(&mut t[a..], i);
                 return served(o, Outcome::Ended(number));
             }
             let lease = granted_lease(o.lease);
-            table::renew_at(t, i, lease, octets::get32(t, layout::RUNNING_AT));
+            let running = octets::get32(t, layout::RUNNING_AT);
+            table::renew_at(&mut t[a..], i, lease, running);
             served(o, Outcome::Renewed(number, lease))
         }
         Found::Nothing => served(o, Outcome::NoSuchLlq(asked)),
@@ -227,23 +237,23 @@ fn serve_refresh(
 // One option, by its kind, on its question in the datagram d, on the table as it stands.
 pub fn serve_option(
     t: &mut [u8],
+    l: Layout,
     s: Sender,
     r: u64,
     d: &[u8],
     q: Question,
     o: LlqOption,
 ) -> ServedOption
-    requires { ⌜ WellFormed (now t) × (q .start + q .len ≤ length (now d)) × (q .len ≤ 255) ⌝ }
+    requires { ⌜ WellFormed (now t) × LayoutFor l (length (now t)) × (q .start + q .len ≤ length (now d)) × (q .len ≤ 255) ⌝ }
     ensures { λ x. ⌜ ServedAs (serveOption (senderOf s) r (questionOf (now (d .entry)) q) (optionOf o) (readTable (now (t .entry)))) (now (t .exit)) x ⌝ }
 {
-    let n = layout::slots(t.len());
     let kind = kind_of(o);
     match kind {
         Kind::BadVersion => served(o, Outcome::BadVersion),
         Kind::BadFormat => served(o, Outcome::BadFormat),
-        Kind::Setup => serve_setup(t, n, s, r, d, q, o),
-        Kind::Response => serve_response(t, n, s, d, q, o),
-        Kind::Refresh => serve_refresh(t, n, s, d, q, o),
+        Kind::Setup => serve_setup(t, l, s, r, d, q, o),
+        Kind::Response => serve_response(t, l, s, d, q, o),
+        Kind::Refresh => serve_refresh(t, l, s, d, q, o),
     }
 }
 

@@ -49,7 +49,7 @@ fields-are s a c b =
     (halves-are (256 ^ 2) (bigEndian s a 2) (bigEndian s (a + 2) 2) (bigEndian s c 2) (bigEndian s (c + 2) 2) (big-lt s (a + 2) 2 b) (big-lt s (c + 2) 2 b))
 
 -- what two entries ask, as the code looks at it: the port, type and class as one, the name
-pub asked-is : (s : List ℕ) (a c : ℕ) → Bytes s → sameAsked (holdingAt s a) (holdingAt s c)
+pub asked-is : (s : List ℕ) (a c : ℕ) → Bytes s → sameAsked (holdingAt 0 s a) (holdingAt 0 s c)
     ≡ eqb (bigEndian s (a + 17) 2) (bigEndian s (c + 17) 2) && eqb (bigEndian s (a + 35) 4) (bigEndian s (c + 35) 4)
     && same (part (a + 40) (getD s (a + 39) 0) s) (part (c + 40) (getD s (c + 39) 0) s)
 unfolding holdingAt readEntry

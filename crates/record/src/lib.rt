@@ -1,4 +1,4 @@
-// One record's bytes in a table: a slot or a roster line, its kind and zeros, and the rules that it meets by itself.
+// One record's bytes, wherever they lie: a slot or a roster line, its kind and zeros, and the rules that it meets by itself.
 ghost use mathlib.Core.Path.{_≡_};
 ghost use mathlib.Core.Bool.{_&&_};
 ghost use Prim.Native.Nat.{_+_, _*_, _^_, _≤_};
@@ -117,8 +117,8 @@ pub fn valid_line(t: &[u8], a: usize) -> bool
 
 // An entry's rules: its number is not zero, its lease is 60 to 7,200, its age is under its lease, its name is valid.
 pub fn valid_entry(t: &[u8], a: usize, running: u32) -> bool
-    requires { ⌜ (a + 320 ≤ length (now t)) × (running ≡ bigEndian (now t) 5 4) ⌝ }
-    ensures { λ r. ⌜ r ≡ validEntry (holdingAt (now (t .entry)) a) ⌝ }
+    requires { ⌜ a + 320 ≤ length (now t) ⌝ }
+    ensures { λ r. ⌜ r ≡ validEntry (holdingAt running (now (t .entry)) a) ⌝ }
 {
     let number = number_at(t, a);
     if number.0 == 0 {
@@ -149,7 +149,7 @@ pub fn number_at(t: &[u8], a: usize) -> LlqNumber
 // The slot at a has an entry of the number. The kind, which most slots share, last.
 pub fn has_number(t: &[u8], a: usize, number: LlqNumber) -> bool
     requires { ⌜ a + 320 ≤ length (now t) ⌝ }
-    ensures { λ r. ⌜ r ≡ (inUse (getD (now (t .entry)) a 0) && numbered (number .0) (holdingAt (now (t .entry)) a)) ⌝ }
+    ensures { λ r. ⌜ r ≡ (inUse (getD (now (t .entry)) a 0) && numbered (number .0) (holdingAt 0 (now (t .entry)) a)) ⌝ }
 {
     let own = number_at(t, a);
     if own.0 == number.0 {
@@ -161,7 +161,7 @@ pub fn has_number(t: &[u8], a: usize, number: LlqNumber) -> bool
 // The slot at a has an entry of the address.
 pub fn has_holder(t: &[u8], a: usize, hi: u64, lo: u64) -> bool
     requires { ⌜ a + 320 ≤ length (now t) ⌝ }
-    ensures { λ r. ⌜ r ≡ (inUse (getD (now (t .entry)) a 0) && heldBy (hi * 2 ^ 64 + lo) (holdingAt (now (t .entry)) a)) ⌝ }
+    ensures { λ r. ⌜ r ≡ (inUse (getD (now (t .entry)) a 0) && heldBy (hi * 2 ^ 64 + lo) (holdingAt 0 (now (t .entry)) a)) ⌝ }
 {
     if has_address(t, a + layout::ADDRESS_AT, hi, lo) {
         return in_use(t[a]);
@@ -172,7 +172,7 @@ pub fn has_holder(t: &[u8], a: usize, hi: u64, lo: u64) -> bool
 // The entries at a and c agree in port, type, class and name. Type and class are compared as one number.
 pub fn same_asked(t: &[u8], a: usize, c: usize) -> bool
     requires { ⌜ (a + 320 ≤ length (now t)) × (c + 320 ≤ length (now t)) ⌝ }
-    ensures { λ r. ⌜ r ≡ sameAsked (holdingAt (now (t .entry)) a) (holdingAt (now (t .entry)) c) ⌝ }
+    ensures { λ r. ⌜ r ≡ sameAsked (holdingAt 0 (now (t .entry)) a) (holdingAt 0 (now (t .entry)) c) ⌝ }
 {
     if octets::get16(t, a + layout::PORT_AT) != octets::get16(t, c + layout::PORT_AT) {
         return false;

@@ -1,26 +1,26 @@
-// Roster lines, one after the other from a base: the rules of a roster, and what the lines say of an address.
+// Roster lines, one after the other: the rules of a roster, and what the lines say of an address. `lines` starts with the first of them: a table's part, or a roster by itself.
 ghost use mathlib.Core.Path.{_≡_};
 ghost use mathlib.Core.Bool.{not, _&&_};
 ghost use Prim.Native.Nat.{_+_, _*_, _^_, _≤_, _<_};
 ghost use lib.ListN.{length, getD};
 ghost use lib.Dec.{eqb};
 ghost use Rattle.model.specs.Lists.{every, noTwo};
-ghost use Rattle.model.specs.Table.{readLine, lineAt, listed};
+ghost use Rattle.model.specs.Table.{readLine};
 ghost use Rattle.model.specs.Rules.{limitOf, shareOf, shares};
 ghost use Rattle.model.specs.Sound.{validLine, sameAddress, soundRoster};
-ghost use Rattle.layout.specs.Shape.{all, unusedFrom, linesFrom, linesTo};
+ghost use Rattle.layout.specs.Shape.{all, unusedFrom, linesTo, listedIn};
 
 // An address that is not listed has share 0 and this limit.
 pub const UNLISTED_LIMIT: u8 = 4;
 
-// How many of a table's lines are listed: those of kind 0x03 that stand first.
-pub fn listed_lines(t: &[u8]) -> usize
-    requires { ⌜ 313 ≤ length (now t) ⌝ }
-    ensures { λ r. ⌜ (r ≡ listed (now (t .entry)) 16) × (r ≤ 16) ⌝ }
+// How many of 16 lines are listed: those of kind 0x03 that stand first.
+pub fn listed_lines(lines: &[u8]) -> usize
+    requires { ⌜ 304 ≤ length (now lines) ⌝ }
+    ensures { λ r. ⌜ (r ≡ listedIn (now (lines .entry)) 16) × (r ≤ 16) ⌝ }
 {
     let mut i: usize = 0;
     while i < layout::LINES {
-        if t[layout::LINES_AT + layout::LINE * i] != layout::LISTED_KIND {
+        if lines[layout::LINE * i] != layout::LISTED_KIND {
             return i;
         }
         i += 1;
@@ -28,16 +28,16 @@ pub fn listed_lines(t: &[u8]) -> usize
     i
 }
 
-// A table's lines from m on are unused.
-pub fn unused_from(t: &[u8], m: usize) -> bool
-    requires { ⌜ (m ≤ 16) × (313 ≤ length (now t)) ⌝ }
-    ensures { λ r. ⌜ r ≡ unusedFrom (now (t .entry)) m ⌝ }
+// Of 16 lines those from m on are unused.
+pub fn unused_from(lines: &[u8], m: usize) -> bool
+    requires { ⌜ (m ≤ 16) × (304 ≤ length (now lines)) ⌝ }
+    ensures { λ r. ⌜ r ≡ unusedFrom (now (lines .entry)) m ⌝ }
 {
     let n = layout::LINES - m;
-    let a = layout::LINES_AT + layout::LINE * m;
+    let a = layout::LINE * m;
     let mut i: usize = 0;
     while i < n {
-        if !record::unused_shape(t, a + layout::LINE * i) {
+        if !record::unused_shape(lines, a + layout::LINE * i) {
             return false;
         }
         i += 1;
@@ -45,14 +45,14 @@ pub fn unused_from(t: &[u8], m: usize) -> bool
     true
 }
 
-// The m records from the base are of kind 0x03.
-pub fn kinds_listed(t: &[u8], m: usize) -> bool
-    requires { ⌜ (m ≤ 16) × (19 * m ≤ length (now t)) ⌝ }
-    ensures { λ r. ⌜ r ≡ all (λ i. eqb (getD (now (t .entry)) (19 * i) 0) 3) m ⌝ }
+// The first m records are of kind 0x03.
+pub fn kinds_listed(lines: &[u8], m: usize) -> bool
+    requires { ⌜ (m ≤ 16) × (19 * m ≤ length (now lines)) ⌝ }
+    ensures { λ r. ⌜ r ≡ all (λ i. eqb (getD (now (lines .entry)) (19 * i) 0) 3) m ⌝ }
 {
     let mut i: usize = 0;
     while i < m {
-        if t[layout::LINE * i] != layout::LISTED_KIND {
+        if lines[layout::LINE * i] != layout::LISTED_KIND {
             return false;
         }
         i += 1;
@@ -61,13 +61,13 @@ pub fn kinds_listed(t: &[u8], m: usize) -> bool
 }
 
 // Each line meets a line's rules.
-fn lines_valid(t: &[u8], base: usize, m: usize) -> bool
-    requires { ⌜ (m ≤ 16) × (base ≤ 9) × (base + 19 * m ≤ length (now t)) ⌝ }
-    ensures { λ r. ⌜ r ≡ every validLine (linesFrom (now (t .entry)) base m) ⌝ }
+fn lines_valid(lines: &[u8], m: usize) -> bool
+    requires { ⌜ (m ≤ 16) × (19 * m ≤ length (now lines)) ⌝ }
+    ensures { λ r. ⌜ r ≡ every validLine (linesTo (now (lines .entry)) m) ⌝ }
 {
     let mut i: usize = 0;
     while i < m {
-        if !record::valid_line(t, base + layout::LINE * i) {
+        if !record::valid_line(lines, layout::LINE * i) {
             return false;
         }
         i += 1;
@@ -76,16 +76,16 @@ fn lines_valid(t: &[u8], base: usize, m: usize) -> bool
 }
 
 // No line before line i has its address.
-fn line_apart(t: &[u8], base: usize, i: usize) -> bool
-    requires { ⌜ (i < 16) × (base ≤ 9) × (base + 19 * i + 19 ≤ length (now t)) ⌝ }
-    ensures { λ r. ⌜ r ≡ every (λ l. not (sameAddress l (readLine (now (t .entry)) (base + 19 * i)))) (linesFrom (now (t .entry)) base i) ⌝ }
+fn line_apart(lines: &[u8], i: usize) -> bool
+    requires { ⌜ (i < 16) × (19 * i + 19 ≤ length (now lines)) ⌝ }
+    ensures { λ r. ⌜ r ≡ every (λ l. not (sameAddress l (readLine (now (lines .entry)) (19 * i)))) (linesTo (now (lines .entry)) i) ⌝ }
 {
-    let a = base + layout::LINE * i;
-    let hi = octets::get64(t, a + layout::ADDRESS_AT);
-    let lo = octets::get64(t, a + layout::LOW_AT);
+    let a = layout::LINE * i;
+    let hi = octets::get64(lines, a + layout::ADDRESS_AT);
+    let lo = octets::get64(lines, a + layout::LOW_AT);
     let mut j: usize = 0;
     while j < i {
-        if record::has_address(t, base + layout::LINE * j + layout::ADDRESS_AT, hi, lo) {
+        if record::has_address(lines, layout::LINE * j + layout::ADDRESS_AT, hi, lo) {
             return false;
         }
         j += 1;
@@ -94,13 +94,13 @@ fn line_apart(t: &[u8], base: usize, i: usize) -> bool
 }
 
 // Listed addresses differ.
-fn lines_apart(t: &[u8], base: usize, m: usize) -> bool
-    requires { ⌜ (m ≤ 16) × (base ≤ 9) × (base + 19 * m ≤ length (now t)) ⌝ }
-    ensures { λ r. ⌜ r ≡ noTwo sameAddress (linesFrom (now (t .entry)) base m) ⌝ }
+fn lines_apart(lines: &[u8], m: usize) -> bool
+    requires { ⌜ (m ≤ 16) × (19 * m ≤ length (now lines)) ⌝ }
+    ensures { λ r. ⌜ r ≡ noTwo sameAddress (linesTo (now (lines .entry)) m) ⌝ }
 {
     let mut i: usize = 0;
     while i < m {
-        if !line_apart(t, base, i) {
+        if !line_apart(lines, i) {
             return false;
         }
         i += 1;
@@ -115,67 +115,67 @@ fn wide(x: u8) -> usize
 }
 
 // The sum of the shares.
-pub fn share_sum(t: &[u8], base: usize, m: usize) -> usize
-    requires { ⌜ (m ≤ 16) × (base ≤ 9) × (base + 19 * m ≤ length (now t)) ⌝ }
-    ensures { λ r. ⌜ r ≡ shares (linesFrom (now (t .entry)) base m) ⌝ }
+pub fn share_sum(lines: &[u8], m: usize) -> usize
+    requires { ⌜ (m ≤ 16) × (19 * m ≤ length (now lines)) ⌝ }
+    ensures { λ r. ⌜ r ≡ shares (linesTo (now (lines .entry)) m) ⌝ }
 {
     let mut s: usize = 0;
     let mut i: usize = 0;
     while i < m {
-        s += wide(t[base + layout::LINE * i + layout::SHARE_AT]);
+        s += wide(lines[layout::LINE * i + layout::SHARE_AT]);
         i += 1;
     }
     s
 }
 
 // Each line meets a line's rules, and listed addresses differ.
-pub fn lines_good(t: &[u8], base: usize, m: usize) -> bool
-    requires { ⌜ (m ≤ 16) × (base ≤ 9) × (base + 19 * m ≤ length (now t)) ⌝ }
-    ensures { λ r. ⌜ r ≡ (every validLine (linesFrom (now (t .entry)) base m) && noTwo sameAddress (linesFrom (now (t .entry)) base m)) ⌝ }
+pub fn lines_good(lines: &[u8], m: usize) -> bool
+    requires { ⌜ (m ≤ 16) × (19 * m ≤ length (now lines)) ⌝ }
+    ensures { λ r. ⌜ r ≡ (every validLine (linesTo (now (lines .entry)) m) && noTwo sameAddress (linesTo (now (lines .entry)) m)) ⌝ }
 {
-    if !lines_valid(t, base, m) {
+    if !lines_valid(lines, m) {
         return false;
     }
-    lines_apart(t, base, m)
+    lines_apart(lines, m)
 }
 
 // The roster rules of n slots.
-pub fn lines_sound(t: &[u8], base: usize, m: usize, n: usize) -> bool
-    requires { ⌜ (m ≤ 16) × (base ≤ 9) × (base + 19 * m ≤ length (now t)) ⌝ }
-    ensures { λ r. ⌜ r ≡ soundRoster n (linesFrom (now (t .entry)) base m) ⌝ }
+pub fn lines_sound(lines: &[u8], m: usize, n: usize) -> bool
+    requires { ⌜ (m ≤ 16) × (19 * m ≤ length (now lines)) ⌝ }
+    ensures { λ r. ⌜ r ≡ soundRoster n (linesTo (now (lines .entry)) m) ⌝ }
 {
-    if !lines_good(t, base, m) {
+    if !lines_good(lines, m) {
         return false;
     }
-    share_sum(t, base, m) <= n
+    share_sum(lines, m) <= n
 }
 
-// The address's limit by a table's first m lines.
-pub fn limit_of(t: &[u8], m: usize, hi: u64, lo: u64) -> usize
-    requires { ⌜ lineAt m ≤ length (now t) ⌝ }
-    ensures { λ r. ⌜ r ≡ limitOf (linesTo (now (t .entry)) m) (hi * 2 ^ 64 + lo) ⌝ }
+// The address's limit by the first m lines.
+pub fn limit_of(lines: &[u8], m: usize, hi: u64, lo: u64) -> usize
+    requires { ⌜ 19 * m ≤ length (now lines) ⌝ }
+    ensures { λ r. ⌜ r ≡ limitOf (linesTo (now (lines .entry)) m) (hi * 2 ^ 64 + lo) ⌝ }
 {
     let mut i: usize = 0;
     while i < m {
-        let a = layout::LINES_AT + layout::LINE * i;
-        if record::has_address(t, a + layout::ADDRESS_AT, hi, lo) {
-            return wide(t[a + layout::LIMIT_AT]);
+        let a = layout::LINE * i;
+        if record::has_address(lines, a + layout::ADDRESS_AT, hi, lo) {
+            return wide(lines[a + layout::LIMIT_AT]);
         }
         i += 1;
     }
     UNLISTED_LIMIT as usize
 }
 
-// The address's share by a table's first m lines.
-pub fn share_of(t: &[u8], m: usize, hi: u64, lo: u64) -> usize
-    requires { ⌜ lineAt m ≤ length (now t) ⌝ }
-    ensures { λ r. ⌜ r ≡ shareOf (linesTo (now (t .entry)) m) (hi * 2 ^ 64 + lo) ⌝ }
+// The address's share by the first m lines.
+pub fn share_of(lines: &[u8], m: usize, hi: u64, lo: u64) -> usize
+    requires { ⌜ 19 * m ≤ length (now lines) ⌝ }
+    ensures { λ r. ⌜ r ≡ shareOf (linesTo (now (lines .entry)) m) (hi * 2 ^ 64 + lo) ⌝ }
 {
     let mut i: usize = 0;
     while i < m {
-        let a = layout::LINES_AT + layout::LINE * i;
-        if record::has_address(t, a + layout::ADDRESS_AT, hi, lo) {
-            return wide(t[a + layout::SHARE_AT]);
+        let a = layout::LINE * i;
+        if record::has_address(lines, a + layout::ADDRESS_AT, hi, lo) {
+            return wide(lines[a + layout::SHARE_AT]);
         }
         i += 1;
     }

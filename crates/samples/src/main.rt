@@ -14,7 +14,7 @@ ghost use lib.ListN.{length};
 ghost use Rattle.script.specs.Spelled.{nextAt};
 
 // The largest table.
-const TABLE: usize = layout::SLOTS_AT + layout::SLOT * layout::SLOTS_MOST;
+const TABLE: usize = layout::TABLE_MOST;
 
 // The most bytes of a list that are read.
 const LIST: usize = 131072;

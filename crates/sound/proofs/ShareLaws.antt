@@ -1,5 +1,5 @@
 -- One entry more in the walk over a table of few slots: it meets the rules of holders, and takes a slot that its share reserves or one beyond. Assumes nothing.
-use Prim.Native.Nat.{ℕ, _+_, _≤_, _<_}
+use Prim.Native.Nat.{ℕ, _+_, _*_, _≤_, _<_}
 use native.Mathlib.Omega.{arith}
 use mathlib.Core.Path.{_≡_, refl, sym, ap, _∙_}
 use mathlib.Core.Bool.{Bool, true, false, not, cond, _&&_, and-false}
@@ -8,7 +8,7 @@ use lib.ListN.{getD}
 use lib.Dec.{leb}
 use borrow.Author.Tests.{leb-true, leb-false, le-leb, lt-leb}
 use Rattle.model.specs.Lists.{bit, count, any, every, noTwo}
-use Rattle.model.specs.Table.{Line, slotAt}
+use Rattle.model.specs.Table.{Line}
 use Rattle.model.specs.Rules.{numbered, heldBy, limitOf, shareOf, reserve}
 use Rattle.model.specs.Sound.{validLine, sameAddress, sameNumber, sameQuestion}
 use Rattle.layout.specs.Shape.{inUse}
@@ -50,28 +50,28 @@ module _ (s m c x : ℕ) (l : s ≤ m) where
   no-fit false q e h = refl
 
 -- slot i has an entry, which takes x slots beyond its share
-module _ (b : List ℕ) (i : ℕ) (held : inUse (getD b (slotAt i) 0) ≡ true) (ls : List Line) (valid : every validLine ls ≡ true) (x : ℕ)
-    (e : x ≡ entryBeyondShare b ls i (holdingAt b (slotAt i))) where
-  pub beyond-yes : (k : ℕ) → x ≤ 1 → noTwo sameAddress ls ≡ true → noTwo sameNumber (heldTo b i) ≡ true → holdersSound b ls i ≡ true
-      → k ≡ reserve ls (count (heldTo b i)) + count (heldTo b i) any
-      → (noTwo sameNumber (heldTo b (i + 1)) ≡ true) × (holdersSound b ls (i + 1) ≡ true) × (k + x ≡ reserve ls (count (heldTo b (i + 1))) + count (heldTo b (i + 1)) any)
+module _ (b : List ℕ) (i : ℕ) (held : inUse (getD b (320 * i) 0) ≡ true) (ls : List Line) (valid : every validLine ls ≡ true) (x : ℕ)
+    (e : x ≡ entryBeyondShare b ls i (holdingAt 0 b (320 * i))) where
+  pub beyond-yes : (k : ℕ) → x ≤ 1 → noTwo sameAddress ls ≡ true → noTwo sameNumber (heldTo 0 b i) ≡ true → holdersSound b ls i ≡ true
+      → k ≡ reserve ls (count (heldTo 0 b i)) + count (heldTo 0 b i) any
+      → (noTwo sameNumber (heldTo 0 b (i + 1)) ≡ true) × (holdersSound b ls (i + 1) ≡ true) × (k + x ≡ reserve ls (count (heldTo 0 b (i + 1))) + count (heldTo 0 b (i + 1)) any)
   beyond-yes k h apart n f r =
-      let z = holdingAt b (slotAt i) in
+      let z = holdingAt 0 b (320 * i) in
       let w =
-      fit (shareOf ls (z .address)) (limitOf ls (z .address)) (count (heldTo b i) (heldBy (z .address))) x (share-limit ls (z .address) valid)
-      (every (λ g. not (numbered (z .number) g)) (heldTo b i)) (every (λ g. not (sameQuestion g z)) (heldTo b i)) e h
+      fit (shareOf ls (z .address)) (limitOf ls (z .address)) (count (heldTo 0 b i) (heldBy (z .address))) x (share-limit ls (z .address) valid)
+      (every (λ g. not (numbered (z .number) g)) (heldTo 0 b i)) (every (λ g. not (sameQuestion g z)) (heldTo 0 b i)) e h
       in
-      (numbers-yes b i held (z .number) refl (w .0) n, holder-yes b i held ls (w .1) f, rw (r, w .2) (sym (reserve-held b ls i held apart)))
+      (numbers-yes b i held (z .number) refl (w .0) n, holder-yes b i held ls (w .1) f, rw (r, w .2) (sym (reserve-held 0 b ls i held apart)))
 
   pub beyond-no : (n : ℕ) → i < n → 1 < x → entriesSound b ls n ≡ false
   beyond-no n l h =
-      let z = holdingAt b (slotAt i) in
-      let p = every (λ g. not (numbered (z .number) g)) (heldTo b i) in
+      let z = holdingAt 0 b (320 * i) in
+      let p = every (λ g. not (numbered (z .number) g)) (heldTo 0 b i) in
       go p refl
-      (no-fit (shareOf ls (z .address)) (limitOf ls (z .address)) (count (heldTo b i) (heldBy (z .address))) x (share-limit ls (z .address) valid)
-      p (every (λ g. not (sameQuestion g z)) (heldTo b i)) e h)
+      (no-fit (shareOf ls (z .address)) (limitOf ls (z .address)) (count (heldTo 0 b i) (heldBy (z .address))) x (share-limit ls (z .address) valid)
+      p (every (λ g. not (sameQuestion g z)) (heldTo 0 b i)) e h)
     where
-      go : (v : Bool) → every (λ g. not (numbered (holdingAt b (slotAt i) .number) g)) (heldTo b i) ≡ v → v && holderSound b ls i (holdingAt b (slotAt i)) ≡ false
+      go : (v : Bool) → every (λ g. not (numbered (holdingAt 0 b (320 * i) .number) g)) (heldTo 0 b i) ≡ v → v && holderSound b ls i (holdingAt 0 b (320 * i)) ≡ false
           → entriesSound b ls n ≡ false
       go true p f = rw (holder-no b i held ls n l f, and-false)
-      go false p f = rw (numbers-no b i held (holdingAt b (slotAt i) .number) refl n l p)
+      go false p f = rw (numbers-no b i held (holdingAt 0 b (320 * i) .number) refl n l p)

@@ -1,4 +1,4 @@
--- What the pass over the holders tests, slot by slot. Assumes nothing.
+-- What the pass over the holders tests, slot by slot; no age is seen. Assumes nothing.
 use Prim.Native.Nat.{ℕ, _+_}
 use mathlib.Core.Bool.{Bool, not, cond, _&&_}
 use mathlib.Core.List.{List}
@@ -11,11 +11,11 @@ use Rattle.layout.specs.Held.{heldTo, within}
 
 -- a holding, with those below slot i: none has its address and question, and its address is within its limit
 abbrev pub holderSound : List ℕ → List Line → ℕ → Holding → Bool
-holderSound b ls i k = every (λ h. not (sameQuestion h k)) (heldTo b i) && leb (count (heldTo b i) (heldBy (k .address)) + 1) (limitOf ls (k .address))
+holderSound b ls i k = every (λ h. not (sameQuestion h k)) (heldTo 0 b i) && leb (count (heldTo 0 b i) (heldBy (k .address)) + 1) (limitOf ls (k .address))
 
 -- of those below slot i no two have one address and question, and no address holds more than its limit
 abbrev pub holdersSound : List ℕ → List Line → ℕ → Bool
-holdersSound b ls i = noTwo sameQuestion (heldTo b i) && every (within ls (heldTo b i)) (heldTo b i)
+holdersSound b ls i = noTwo sameQuestion (heldTo 0 b i) && every (within ls (heldTo 0 b i)) (heldTo 0 b i)
 
 -- How many slots beyond its share one holding more takes for an address that has k: none below the share, one from there on; 2, which is too many,
 -- where the address is at its limit.
@@ -25,9 +25,9 @@ beyondShare share limit k = cond (leb (k + 1) share) 0 (cond (leb (k + 1) limit)
 -- the same of a holding, with those below slot i; 2 also where one of them has its number, or its address and question
 abbrev pub entryBeyondShare : List ℕ → List Line → ℕ → Holding → ℕ
 entryBeyondShare b ls i k =
-    cond (every (λ h. not (numbered (k .number) h)) (heldTo b i) && every (λ h. not (sameQuestion h k)) (heldTo b i))
-    (beyondShare (shareOf ls (k .address)) (limitOf ls (k .address)) (count (heldTo b i) (heldBy (k .address)))) 2
+    cond (every (λ h. not (numbered (k .number) h)) (heldTo 0 b i) && every (λ h. not (sameQuestion h k)) (heldTo 0 b i))
+    (beyondShare (shareOf ls (k .address)) (limitOf ls (k .address)) (count (heldTo 0 b i) (heldBy (k .address)))) 2
 
 -- the rules of entries that two of them, or they and the roster, have to meet, with n slots
 abbrev pub entriesSound : List ℕ → List Line → ℕ → Bool
-entriesSound b ls n = noTwo sameNumber (heldTo b n) && (holdersSound b ls n && leb (reserve ls (count (heldTo b n)) + count (heldTo b n) any) n)
+entriesSound b ls n = noTwo sameNumber (heldTo 0 b n) && (holdersSound b ls n && leb (reserve ls (count (heldTo 0 b n)) + count (heldTo 0 b n) any) n)

@@ -6,17 +6,17 @@ use native.Mathlib.Omega.{arith}
 use mathlib.Core.Path.{_≡_, refl, sym, ap, _∙_}
 use mathlib.Core.Bool.{true}
 use mathlib.Core.List.{List, [], _∷_, _++_, append-assoc}
-use lib.ListN.{length, getD, replicate, length-append, replicate-append-replicate}
+use lib.ListN.{length, replicate, length-append, replicate-append-replicate}
 use Rattle.model.specs.Lists.{upTo, flat}
 use Rattle.model.specs.Numbers.{Bytes, bytesOf, part, splice, encode}
-use Rattle.model.specs.Table.{free, slotBytes, lineBytes, unusedLine, rosterBytes, tableBytes, readLine, lineAt, sizeOf}
+use Rattle.model.specs.Table.{free, slotBytes, lineBytes, unusedLine, rosterBytes, tableBytes, readLine, base, lineAt, sizeOf}
 use Rattle.model.specs.Calls.{goodRoster, rosterCount, rosterLines}
 use Rattle.model.proofs.NumberLaws.{splice-on, splice-all, length-encode, part-all}
 use Rattle.model.proofs.ListLaws.{length-upTo, flat-snoc, flat-next, length-rows, same-true}
 use Rattle.model.proofs.SlotLaws.{length-slot, length-unused}
 use Rattle.model.proofs.TableLaws.{rows-none, rows-next, clock-starts}
 use Rattle.model.proofs.CallLaws.{GivenRoster, given-roster}
-use Rattle.layout.proofs.LayoutLaws.{lines-same, lines-given}
+use Rattle.layout.proofs.LayoutLaws.{lines-same}
 use Rattle.table.specs.Fresh.{unusedLines, freeSlots, fresh}
 
 -- UNUSED LINES AND FREE SLOTS, one after the other
@@ -29,17 +29,20 @@ pub slots-none : (at : ℕ) (s : List ℕ) → s ≡ splice at 0 (freeSlots 0) s
 unfolding freeSlots
 slots-none at s = sym (rows-none (λ (i : ℕ). slotBytes free) 320 (λ i. i) at s)
 
-pub lines-more : (s t x : List ℕ) (m k : ℕ) → lineAt (m + k + 1) ≤ length s → t ≡ splice (lineAt m) (19 * k) (unusedLines k) s
-    → x ≡ splice (lineAt (m + k)) 19 unusedLine t → x ≡ splice (lineAt m) (19 * (k + 1)) (unusedLines (k + 1)) s
+pub lines-more : (s t x : List ℕ) (m k : ℕ) → 19 * (m + k + 1) ≤ length s → t ≡ splice (19 * m) (19 * k) (unusedLines k) s
+    → x ≡ splice (19 * (m + k)) 19 unusedLine t → x ≡ splice (19 * m) (19 * (k + 1)) (unusedLines (k + 1)) s
 unfolding unusedLines
 lines-more s t x m k h e f =
-    let a : lineAt (m + k) ≡ lineAt m + 19 * k = omega arith in
-    rw (f, e, a) (rows-next (λ (i : ℕ). unusedLine) 19 (λ i. i) (lineAt m) s k (λ j. length-unused) (omega arith))
+    let a : 19 * (m + k) ≡ 19 * m + 19 * k = omega arith in
+    rw (f, e, a) (rows-next (λ (i : ℕ). unusedLine) 19 (λ i. i) (19 * m) s k (λ j. length-unused) (omega arith))
 
-pub slots-more : (s t x : List ℕ) (k : ℕ) → sizeOf (k + 1) ≤ length s → t ≡ splice 313 (320 * k) (freeSlots k) s
-    → x ≡ splice (313 + 320 * k) 320 (slotBytes free) t → x ≡ splice 313 (320 * (k + 1)) (freeSlots (k + 1)) s
+pub slots-more : (s t x : List ℕ) (k : ℕ) → 320 * (k + 1) ≤ length s → t ≡ splice 0 (320 * k) (freeSlots k) s
+    → x ≡ splice (320 * k) 320 (slotBytes free) t → x ≡ splice 0 (320 * (k + 1)) (freeSlots (k + 1)) s
 unfolding freeSlots
-slots-more s t x k h e f = rw (f, e) (rows-next (λ (i : ℕ). slotBytes free) 320 (λ i. i) 313 s k (λ j. length-slot free tt) h)
+slots-more s t x k h e f =
+    rw (f, e)
+    (ap (λ (z : ℕ). splice z 320 (slotBytes free) (splice 0 (320 * k) (flat (λ (i : ℕ). slotBytes free) (upTo k (λ i. i))) s)) (sym (zero-add (320 * k)))
+    ∙ rows-next (λ (i : ℕ). slotBytes free) 320 (λ i. i) 0 s k (λ j. length-slot free tt) (omega arith))
 
 length-lines : (k : ℕ) → length (unusedLines k) ≡ 19 * k
 unfolding unusedLines
@@ -65,8 +68,8 @@ module _ (r : List ℕ) (bytes : Bytes r) (n : ℕ) (good : goodRoster n r ≡ t
   roster-bytes : flat lineBytes (rosterLines r) ≡ r
   roster-bytes =
       let m = rosterCount r in
-      let s = lines-same r bytes 0 m (omega (arith, given .whole)) (λ i l. ap (λ (k : ℕ). getD r k 0) (zero-add (19 * i)) ∙ given .kinds i l) in
-      same-true (flat lineBytes (rosterLines r)) (part 0 (19 * m) r) (rw (lines-given r) at s) ∙ ap (λ (k : ℕ). part 0 k r) (sym (given .whole)) ∙ part-all r
+      let s = lines-same r bytes m (omega (arith, given .whole)) (given .kinds) in
+      same-true (flat lineBytes (rosterLines r)) (part 0 (19 * m) r) s ∙ ap (λ (k : ℕ). part 0 k r) (sym (given .whole)) ∙ part-all r
 
   roster-is : rosterBytes (rosterLines r) ≡ r ++ unusedLines (16 - rosterCount r)
   unfolding rosterBytes unusedLines
@@ -82,7 +85,7 @@ module _ (r : List ℕ) (bytes : Bytes r) (n : ℕ) (good : goodRoster n r ≡ t
     parts =
         rw (clock-starts (record { place = place; running = 0 }), roster-is, slots-are n) (simp append-assoc)
 
-    pub fresh-bytes : splice 313 (320 * n) (freeSlots n)
+    fresh-bytes : splice 313 (320 * n) (freeSlots n)
         (splice (lineAt (rosterCount r)) (19 * (16 - rosterCount r)) (unusedLines (16 - rosterCount r))
         (splice 9 (length r) r (splice 1 8 (encode fs) (splice 0 1 (bytesOf 1 1) s)))) ≡ tableBytes (fresh place r n)
     unfolding bytesOf
@@ -100,3 +103,10 @@ module _ (r : List ℕ) (bytes : Bytes r) (n : ℕ) (good : goodRoster n r ≡ t
         length-append (((1 ∷ []) ++ encode fs) ++ r) u ∙ (rw (cr, length-lines (16 - m))) ∙ w in
         let four = splice-on 313 (320 * n) ((((1 ∷ []) ++ encode fs) ++ r) ++ u) (freeSlots n) s cu (omega (arith, size)) in
         rw (one, two, l, three, w, four) (splice-all (sizeOf n) _ s size ∙ parts)
+
+    -- step by step, as the code writes them
+    pub fresh-written : {at : ℕ} {s₁ s₂ s₃ s₄ s₅ : List ℕ} → at ≡ lineAt 0 → s₁ ≡ splice 0 1 (bytesOf 1 1) s → s₂ ≡ splice 1 8 (encode fs) s₁
+        → s₃ ≡ splice at (length r) (part 0 (length r) r) s₂
+        → s₄ ≡ splice (lineAt 0 + 19 * rosterCount r) (19 * (16 - rosterCount r)) (unusedLines (16 - rosterCount r)) s₃
+        → s₅ ≡ splice (base + 0) (320 * n) (freeSlots n) s₄ → s₅ ≡ tableBytes (fresh place r n)
+    fresh-written p e₁ e₂ e₃ e₄ e₅ = e₅ ∙ (rw (e₄, e₃, p, part-all r, e₂, e₁) fresh-bytes)

@@ -1,28 +1,31 @@
 -- Laws for the sweep that frees run-out entries. Assumes nothing.
-use Prim.Native.Nat.{ℕ, zero, suc, _+_, _^_, _≤_, _<_}
+use Prim.Native.Nat.{ℕ, zero, suc, _+_, _-_, _*_, _^_, _<_}
+use native.Mathlib.Nat.{zero-add}
 use native.Mathlib.Numerals.{add-one}
 use native.Mathlib.Omega.{arith}
 use mathlib.Core.Path.{_≡_, refl, sym, ap, _∙_, subst}
 use mathlib.Core.Bool.{Bool, true, false, cond}
-use mathlib.Core.List.{List, [], _∷_, map}
-use lib.ListN.{length, getD, take, set}
+use mathlib.Core.List.{List, [], _∷_, _++_, map}
+use lib.ListN.{length, getD, take, drop, set}
 use lib.Seq.{take-suc, set-getD, take-length}
-use Rattle.model.specs.Lists.{bit, count}
+use Rattle.model.specs.Lists.{bit, count, flat}
 use Rattle.model.specs.Numbers.{Bytes, bigEndian, splice, encode}
 use Rattle.model.specs.Clock.{Clock, advance}
-use Rattle.model.specs.Table.{Slot, free, Table, slotBytes, tableBytes, readTable, readSlot, slotAt, sizeOf}
-use Rattle.model.specs.Sound.{FitsSlot, Fits}
+use Rattle.model.specs.Table.{Slot, free, Table, slotBytes, tableBytes, readTable, readSlot, base, sizeOf}
+use Rattle.model.specs.Sound.{FitsSlot}
 use Rattle.model.specs.Serve.{withClock, withSlots, slotRunOut, freeIfRunOut, freeRunOut, movedOn, ended}
 use Rattle.model.specs.Calls.{freedBy}
-use Rattle.model.proofs.ListLaws.{count-append}
-use Rattle.model.proofs.TableLaws.{with-slot}
-use Rattle.model.proofs.RoundTrip.{slot-at}
-use Rattle.model.proofs.Meaning.{fits-read, lines-read, slots-count}
-use Rattle.model.proofs.StepLaws.{freed-fits, fits-with-slots, fits-free}
+use Rattle.model.proofs.ListLaws.{count-append, getD-any, length-upTo, getD-upTo}
+use Rattle.model.proofs.SlotLaws.{length-slot, fits-short, slot-back}
+use Rattle.model.proofs.TableLaws.{flat-cut, flat-set, length-front}
+use Rattle.model.proofs.Meaning.{fits-read, fits-slot, lines-read}
+use Rattle.model.proofs.StepLaws.{freed-fits, fits-free}
+use Rattle.layout.specs.Shape.{slotsTo}
+use Rattle.layout.proofs.PartLaws.{slots-read, tail-is, tail-back}
 use Rattle.layout.proofs.ReadLaws.{running-read}
-use Rattle.table.specs.Written.{WellFormed, Written}
+use Rattle.table.specs.Written.{WellFormed, FormedSlots, Written}
 use Rattle.table.specs.Sweep.{firstChanged, freedTo}
-use Rattle.table.proofs.WriteLaws.{written, clock-written, formed-written}
+use Rattle.table.proofs.WriteLaws.{written, clock-written, formed-written, with-slots}
 
 -- THE FIRST i SLOTS CHANGED
 
@@ -61,47 +64,53 @@ module _ (g : Slot → Slot) where
   first-fits ok (suc i) (x ∷ s) f zero l = ok x (f 0 l)
   first-fits ok (suc i) (x ∷ s) f (suc j) l = first-fits ok i s (λ k m. f (suc k) (omega arith)) j (omega arith)
 
+-- ROWS OF SLOTS
+
+module _ (s : List Slot) (fits : (j : ℕ) → j < length s → FitsSlot (getD s j free)) where
+  rows : (i : ℕ) (d : Slot) → i < length s → length (slotBytes (getD s i d)) ≡ 320
+  rows i d l = rw (getD-any s i d free l) (length-slot (getD s i free) (fits-short (getD s i free) (fits i l)))
+
+  row-read : (i : ℕ) → i < length s → readSlot (flat slotBytes s) (320 * i) ≡ getD s i free
+  row-read i l =
+      ap (λ (z : List ℕ). readSlot z (320 * i)) (flat-cut slotBytes s i free l)
+      ∙ slot-back (flat slotBytes (take i s)) (320 * i) (getD s i free) (flat slotBytes (drop (suc i) s)) (length-front slotBytes 320 s rows i (omega arith)) (fits i l)
+
+  row-set : (i : ℕ) (x : Slot) → i < length s → splice (320 * i) 320 (slotBytes x) (flat slotBytes s) ≡ flat slotBytes (set s i x)
+  row-set i x l = ap (λ (k : ℕ). splice k 320 (slotBytes x) (flat slotBytes s)) (sym (zero-add (320 * i))) ∙ flat-set slotBytes 320 s rows [] 0 i x refl l
+
 -- A TURN OF THE SWEEP
 
-module _ (t : Table) (lines : length (t .roster) ≤ 16) (f : Fits t) where
+module _ (r : ℕ) (s : List Slot) (fits : (j : ℕ) → j < length s → FitsSlot (getD s j free)) where
   g : Slot → Slot
-  g = freeIfRunOut (t .clock .running)
+  g = freeIfRunOut r
 
-  pub freed-to-fits : (i : ℕ) → Fits (freedTo t i)
-  unfolding g
-  freed-to-fits i =
-      fits-with-slots t (firstChanged i g (t .slots)) f
-      (λ j l. first-fits g (freed-fits (t .clock .running)) i (t .slots) (f .slots) j (rw (length-first g i (t .slots)) at l))
+  module _ (i : ℕ) (l : i < length s) (b : List ℕ) (inv : b ≡ flat slotBytes (freedTo r s i)) where
+    here : i < length (freedTo r s i)
+    here = rw (length-first (freeIfRunOut r) i s) l
 
-  pub freed-all : freedTo t (length (t .slots)) ≡ freeRunOut t
-  unfolding g
-  freed-all = ap (withSlots t) (first-all g (t .slots))
+    still-fits : (j : ℕ) → j < length (freedTo r s i) → FitsSlot (getD (freedTo r s i) j free)
+    still-fits j m = first-fits (freeIfRunOut r) (freed-fits r) i s fits j (rw (length-first (freeIfRunOut r) i s) at m)
 
-  module _ (i : ℕ) (l : i < length (t .slots)) (b : List ℕ) (inv : b ≡ tableBytes (freedTo t i)) where
-    here : i < length (firstChanged i g (t .slots))
-    here = rw (length-first g i (t .slots)) l
+    pub freed-read : readSlot b (320 * i) ≡ getD s i free
+    freed-read = ap (λ (z : List ℕ). readSlot z (320 * i)) inv ∙ row-read (freedTo r s i) still-fits i here ∙ first-here (freeIfRunOut r) i s free
 
-    pub freed-read : readSlot b (slotAt i) ≡ getD (t .slots) i free
+    freed-next : (x : Slot) → g (getD s i free) ≡ x → splice (320 * i) 320 (slotBytes x) b ≡ flat slotBytes (freedTo r s (i + 1))
     unfolding g
-    freed-read = ap (λ (z : List ℕ). readSlot z (slotAt i)) inv ∙ slot-at (freedTo t i) lines (freed-to-fits i) i here ∙ first-here g i (t .slots) free
+    freed-next x e =
+        ap (splice (320 * i) 320 (slotBytes x)) inv ∙ row-set (freedTo r s i) still-fits i x here
+        ∙ ap (flat slotBytes) (ap (set (freedTo r s i) i) (sym e) ∙ sym (first-next (freeIfRunOut r) i s free l))
 
-    freed-next : (s : Slot) → g (getD (t .slots) i free) ≡ s → splice (slotAt i) 320 (slotBytes s) b ≡ tableBytes (freedTo t (i + 1))
-    unfolding g
-    freed-next s e =
-        ap (splice (slotAt i) 320 (slotBytes s)) inv ∙ with-slot (freedTo t i) lines (freed-to-fits i) i s here
-        ∙ ap (λ (z : List Slot). tableBytes (withSlots t z)) (ap (set (firstChanged i g (t .slots)) i) (sym e) ∙ sym (first-next g i (t .slots) free l))
-
-    pub freed-hit : slotRunOut (t .clock .running) (getD (t .slots) i free) ≡ true → splice (slotAt i) 320 (slotBytes ended) b ≡ tableBytes (freedTo t (i + 1))
+    pub freed-hit : slotRunOut r (getD s i free) ≡ true → splice (320 * i) 320 (slotBytes ended) b ≡ flat slotBytes (freedTo r s (i + 1))
     unfolding g
     freed-hit h = freed-next free (rw h)
 
-    pub freed-miss : slotRunOut (t .clock .running) (getD (t .slots) i free) ≡ false → b ≡ tableBytes (freedTo t (i + 1))
+    pub freed-miss : slotRunOut r (getD s i free) ≡ false → b ≡ flat slotBytes (freedTo r s (i + 1))
     unfolding g
     freed-miss h =
-        let e : g (getD (t .slots) i free) ≡ getD (firstChanged i g (t .slots)) i free = (rw h) ∙ sym (first-here g i (t .slots) free) in
+        let e : g (getD s i free) ≡ getD (freedTo r s i) i free = (rw h) ∙ sym (first-here (freeIfRunOut r) i s free) in
         inv
-        ∙ ap (λ (z : List Slot). tableBytes (withSlots t z))
-        (sym (first-next g i (t .slots) free l ∙ ap (set (firstChanged i g (t .slots)) i) e ∙ set-getD (firstChanged i g (t .slots)) i free))
+        ∙ ap (flat slotBytes)
+        (sym (first-next (freeIfRunOut r) i s free l ∙ ap (set (freedTo r s i) i) e ∙ set-getD (freedTo r s i) i free))
 
 -- counting along
 module _ {A : Type 0} (p : A → Bool) (s : List A) (d : A) where
@@ -114,47 +123,75 @@ module _ {A : Type 0} (p : A → Bool) (s : List A) (d : A) where
   took-miss : (i k : ℕ) → i < length s → p (getD s i d) ≡ false → k ≡ count (take i s) p → k ≡ count (take (i + 1) s) p
   took-miss i k h t e = rw (take-next i h, t, e) (omega arith)
 
--- THE WHOLE OF IT, from the bytes
+-- THE WHOLE OF IT, from the slots' bytes
 
-module _ (b : List ℕ) (bytes : Bytes b) (n r : ℕ) (size : length b ≡ sizeOf n) (now-is : r ≡ bigEndian b 5 4) where
-  module _ (i : ℕ) (l : i < n) (x : List ℕ) (inv : x ≡ tableBytes (freedTo (readTable b) i)) where
-    inside : i < length (readTable b .slots)
-    inside = rw (slots-count b n size) l
+module _ (b : List ℕ) (bytes : Bytes b) (n r : ℕ) where
+  abbrev slots : List Slot
+  slots = slotsTo b n
 
-    same-slot : readSlot x (slotAt i) ≡ getD (readTable b .slots) i free
-    same-slot = freed-read (readTable b) (lines-read b) (fits-read b bytes) i inside x inv
+  long : length slots ≡ n
+  long = length-upTo n (λ j. readSlot b (320 * j))
 
-    test : (v : Bool) → slotRunOut r (readSlot x (slotAt i)) ≡ v → slotRunOut (readTable b .clock .running) (getD (readTable b .slots) i free) ≡ v
-    test v h = ap (λ (z : ℕ). slotRunOut z (getD (readTable b .slots) i free)) (running-read b ∙ sym now-is) ∙ sym (ap (slotRunOut r) same-slot) ∙ h
+  fit : (j : ℕ) → j < length slots → FitsSlot (getD slots j free)
+  fit j l = let m : j < n = rw long at l in rw (getD-upTo n (λ k. readSlot b (320 * k)) j free m) (fits-slot b bytes (320 * j))
 
-    pub turn-hit : slotRunOut r (readSlot x (slotAt i)) ≡ true → splice (slotAt i) 320 (slotBytes ended) x ≡ tableBytes (freedTo (readTable b) (i + 1))
-    turn-hit h = freed-hit (readTable b) (lines-read b) (fits-read b bytes) i inside x inv (test true h)
+  module _ (i : ℕ) (l : i < n) (x : List ℕ) (inv : x ≡ flat slotBytes (freedTo r slots i)) where
+    inside : i < length slots
+    inside = rw long l
 
-    pub turn-miss : slotRunOut r (readSlot x (slotAt i)) ≡ false → x ≡ tableBytes (freedTo (readTable b) (i + 1))
-    turn-miss h = freed-miss (readTable b) (lines-read b) (fits-read b bytes) i inside x inv (test false h)
+    test : (v : Bool) → slotRunOut r (readSlot x (320 * i)) ≡ v → slotRunOut r (getD slots i free) ≡ v
+    test v h = sym (ap (slotRunOut r) (freed-read r slots fit i inside x inv)) ∙ h
 
-    pub count-hit : (k : ℕ) → slotRunOut r (readSlot x (slotAt i)) ≡ true → k ≡ count (take i (readTable b .slots)) (slotRunOut r)
-        → k + 1 ≡ count (take (i + 1) (readTable b .slots)) (slotRunOut r)
-    count-hit k h e = took-hit (slotRunOut r) (readTable b .slots) free i k inside (sym (ap (slotRunOut r) same-slot) ∙ h) e
+    pub turn-hit : slotRunOut r (readSlot x (320 * i)) ≡ true → splice (320 * i) 320 (slotBytes ended) x ≡ flat slotBytes (freedTo r slots (i + 1))
+    turn-hit h = freed-hit r slots fit i inside x inv (test true h)
 
-    pub count-miss : (k : ℕ) → slotRunOut r (readSlot x (slotAt i)) ≡ false → k ≡ count (take i (readTable b .slots)) (slotRunOut r)
-        → k ≡ count (take (i + 1) (readTable b .slots)) (slotRunOut r)
-    count-miss k h e = took-miss (slotRunOut r) (readTable b .slots) free i k inside (sym (ap (slotRunOut r) same-slot) ∙ h) e
+    pub turn-miss : slotRunOut r (readSlot x (320 * i)) ≡ false → x ≡ flat slotBytes (freedTo r slots (i + 1))
+    turn-miss h = freed-miss r slots fit i inside x inv (test false h)
 
-  pub all-freed : (x : List ℕ) (k i : ℕ) → i ≡ n → x ≡ tableBytes (freedTo (readTable b) i) → k ≡ count (take i (readTable b .slots)) (slotRunOut r)
-      → Written x (freeRunOut (readTable b)) × (k ≡ count (readTable b .slots) (slotRunOut r))
+    pub count-hit : (k : ℕ) → slotRunOut r (readSlot x (320 * i)) ≡ true → k ≡ count (take i slots) (slotRunOut r)
+        → k + 1 ≡ count (take (i + 1) slots) (slotRunOut r)
+    count-hit k h e = took-hit (slotRunOut r) slots free i k inside (test true h) e
+
+    pub count-miss : (k : ℕ) → slotRunOut r (readSlot x (320 * i)) ≡ false → k ≡ count (take i slots) (slotRunOut r)
+        → k ≡ count (take (i + 1) slots) (slotRunOut r)
+    count-miss k h e = took-miss (slotRunOut r) slots free i k inside (test false h) e
+
+  pub all-freed : (x : List ℕ) (k i : ℕ) → i ≡ n → x ≡ flat slotBytes (freedTo r slots i) → k ≡ count (take i slots) (slotRunOut r)
+      → (x ≡ flat slotBytes (map (freeIfRunOut r) slots)) × (k ≡ count slots (slotRunOut r))
   all-freed x k i e inv c =
-      let z : i ≡ length (readTable b .slots) = e ∙ sym (slots-count b n size) in
-      let t = readTable b in
-      let all : x ≡ tableBytes (freeRunOut t) =
-      inv ∙ ap (λ (j : ℕ). tableBytes (freedTo t j)) z ∙ ap tableBytes (freed-all t (lines-read b) (fits-read b bytes)) in (
-        written x (freeRunOut t) (lines-read b) (fits-free t (fits-read b bytes)) all,
-        c ∙ ap (λ (j : ℕ). count (take j (t .slots)) (slotRunOut r)) z ∙ ap (λ (s : List Slot). count s (slotRunOut r)) (take-length (t .slots)),
+      let z : i ≡ length slots = e ∙ sym long in (
+        inv ∙ ap (λ (j : ℕ). flat slotBytes (freedTo r slots j)) z ∙ ap (flat slotBytes) (first-all (freeIfRunOut r) slots),
+        c ∙ ap (λ (j : ℕ). count (take j slots) (slotRunOut r)) z ∙ ap (λ (s : List Slot). count s (slotRunOut r)) (take-length slots),
       )
 
-pub sweep-start : (b : List ℕ) → WellFormed b → b ≡ tableBytes (freedTo (readTable b) 0)
+pub sweep-start : (r : ℕ) (b : List ℕ) (n : ℕ) → FormedSlots b n → b ≡ flat slotBytes (freedTo r (slotsTo b n) 0)
 unfolding firstChanged
-sweep-start b h = sym h
+sweep-start r b n h = sym h
+
+-- a slots' part that was lent to the sweep
+pub lent-swept : (x : List ℕ) (n r : ℕ) {a : ℕ} {ws : List ℕ} {k : ℕ} → a ≡ base
+    → (ws ≡ flat slotBytes (map (freeIfRunOut r) (slotsTo (take (length x - a) (drop a x)) n))) × (k ≡ count (slotsTo (take (length x - a) (drop a x)) n) (slotRunOut r))
+    → (take a x ++ (ws ++ drop (length x - a) (drop a x)) ≡ take base x ++ flat slotBytes (map (freeIfRunOut r) (slotsTo (drop base x) n)))
+    × (k ≡ count (slotsTo (drop base x) n) (slotRunOut r))
+lent-swept x n r e h =
+    let s = tail-is x e in (
+      tail-back x e (h .0 ∙ ap (λ (y : List ℕ). flat slotBytes (map (freeIfRunOut r) (slotsTo y n))) s),
+      h .1 ∙ ap (λ (y : List ℕ). count (slotsTo y n) (slotRunOut r)) s,
+    )
+
+-- the same of a table whose slots' part was swept
+pub table-swept : (b : List ℕ) → Bytes b → WellFormed b → (n r : ℕ) → length b ≡ sizeOf n → r ≡ bigEndian b 5 4 → (y : List ℕ) (k : ℕ)
+    → (y ≡ take base b ++ flat slotBytes (map (freeIfRunOut r) (slotsTo (drop base b) n))) × (k ≡ count (slotsTo (drop base b) n) (slotRunOut r))
+    → Written y (freeRunOut (readTable b)) × (k ≡ count (readTable b .slots) (slotRunOut r))
+table-swept b bytes formed n r size e y k h =
+    let s = slots-read b n size in
+    let d : readTable b .clock .running ≡ r = running-read b ∙ sym e in
+    let t : freeRunOut (readTable b) ≡ withSlots (readTable b) (map (freeIfRunOut r) (slotsTo (drop base b) n)) =
+    ap (λ (z : ℕ). withSlots (readTable b) (map (freeIfRunOut z) (readTable b .slots))) d ∙ ap (λ (z : List Slot). withSlots (readTable b) (map (freeIfRunOut r) z)) s in (
+      written y (freeRunOut (readTable b)) (lines-read b) (fits-free (readTable b) (fits-read b bytes))
+          (h .0 ∙ with-slots b bytes formed (map (freeIfRunOut r) (slotsTo (drop base b) n)) ∙ ap tableBytes (sym t)),
+      h .1 ∙ ap (λ (z : List Slot). count z (slotRunOut r)) (sym s),
+    )
 
 -- THE CLOCK MOVED FIRST
 

@@ -1,24 +1,26 @@
 -- Laws for one slot or the clock written in place: the bytes are again those of a table. Assumes nothing.
-use Prim.Native.Nat.{ℕ, _+_, _-_, _^_, _≤_, _<_}
+use Prim.Native.Nat.{ℕ, _+_, _-_, _*_, _^_, _≤_, _<_}
 use native.Mathlib.Omega.{arith}
-use mathlib.Core.Path.{_≡_, refl, sym, ap, _∙_}
+use mathlib.Core.Path.{_≡_, refl, sym, ap, _∙_, subst}
 use mathlib.Core.List.{List, [], _∷_, _++_, append-assoc}
 use lib.ListN.{length, take, drop, replicate, length-append}
-use lib.Seq.{length-take-le}
+use lib.Seq.{length-take-le, take-at, drop-at}
+use Rattle.model.specs.Lists.{flat}
 use Rattle.model.specs.Numbers.{Bytes, bytesOf, part, splice, encode}
 use Rattle.model.specs.Clock.{Clock}
-use Rattle.model.specs.Table.{Entry, Slot, free, held, Table, slotBytes, tableBytes, readTable, readSlot, slotAt, sizeOf, slotsIn, unusedLine, kindOf}
+use Rattle.model.specs.Table.{Entry, Slot, free, held, Table, clockBytes, rosterBytes, slotBytes, tableBytes, readTable, readSlot, base, slotAt, sizeOf, slotsIn, unusedLine, kindOf}
 use Rattle.model.specs.Rules.{grantedLease}
 use Rattle.model.specs.Sound.{FitsSlot, Fits}
-use Rattle.model.specs.Serve.{withClock, withSlot, establish, renew}
+use Rattle.model.specs.Serve.{withClock, withSlots, withSlot, establish, renew}
 use Rattle.model.proofs.NumberLaws.{splice-splice, splice-mid, splice-part, length-encode, encode-first}
 use Rattle.model.proofs.SlotLaws.{kind-lt}
-use Rattle.model.proofs.TableLaws.{with-slot, with-clock}
+use Rattle.model.proofs.TableLaws.{with-slot, with-clock, length-clock, length-roster}
 use Rattle.model.proofs.RoundTrip.{table-back}
 use Rattle.model.proofs.Meaning.{fits-read, lines-read, slots-read}
 use Rattle.model.proofs.StepLaws.{fits-with-slot, fits-with-clock}
 use Rattle.layout.proofs.ReadLaws.{formed-size, formed-slot}
-use Rattle.table.specs.Written.{WellFormed, Written}
+use Rattle.layout.proofs.PartLaws.{part-drop, tail-is, slots-read as slots-part}
+use Rattle.table.specs.Written.{WellFormed, FormedSlots, Written}
 
 -- bytes that are not written stay as they are
 pub unwritten : (b : List ℕ) → WellFormed b → Written b (readTable b)
@@ -50,6 +52,31 @@ module _ (b : List ℕ) (bytes : Bytes b) (formed : WellFormed b) where
   clock-written c p r x e =
       written x (withClock (readTable b) c) (lines-read b) (fits-with-clock (readTable b) c (fits-read b bytes) p r)
       (e ∙ ap (splice 1 8 (encode ((4, c .place) ∷ (4, c .running) ∷ []))) (sym formed) ∙ with-clock (readTable b) c)
+
+  -- ITS SLOTS' PART
+  abbrev head : List ℕ
+  head = clockBytes (readTable b .clock) ++ rosterBytes (readTable b .roster)
+
+  head-length : length head ≡ base
+  head-length = rw (length-append, length-clock (readTable b .clock), length-roster (readTable b .roster) (lines-read b))
+
+  split : b ≡ head ++ flat slotBytes (readTable b .slots)
+  unfolding tableBytes
+  split = sym formed ∙ sym (append-assoc (clockBytes (readTable b .clock)) (rosterBytes (readTable b .roster)) (flat slotBytes (readTable b .slots)))
+
+  pub formed-slots : (n : ℕ) → length b ≡ sizeOf n → FormedSlots (drop base b) n
+  formed-slots n size =
+      ap (flat slotBytes) (sym (slots-part b n size)) ∙ sym (ap (drop base) split ∙ drop-at head (flat slotBytes (readTable b .slots)) base head-length)
+
+  pub with-slots : (s : List Slot) → take base b ++ flat slotBytes s ≡ tableBytes (withSlots (readTable b) s)
+  unfolding tableBytes
+  with-slots s =
+      let t : take base b ≡ head = ap (take base) split ∙ take-at head (flat slotBytes (readTable b .slots)) base head-length in
+      rw t (append-assoc (clockBytes (readTable b .clock)) (rosterBytes (readTable b .roster)) (flat slotBytes s))
+
+-- it is lent
+pub lent-formed : {x : List ℕ} → WellFormed x → Bytes x → (n : ℕ) → length x ≡ sizeOf n → {a : ℕ} → a ≡ base → FormedSlots (take (length x - a) (drop a x)) n
+lent-formed {x = x} formed bytes n size e = subst (λ (y : List ℕ). FormedSlots y n) (sym (tail-is x e)) (formed-slots x bytes formed n size)
 
 -- SOME FIELDS OF A ROW WRITTEN
 
@@ -97,9 +124,9 @@ by-kind : (e : Entry) → slotBytes (held e) ≡ (kindOf (e .established) ∷ []
 unfolding slotBytes rest
 by-kind e = ap (λ (s : List ℕ). s ++ (e .name ++ replicate (280 - length (e .name)) 0)) (encode-first (kindOf (e .established)) (rest e) (kind-lt (e .established)))
 
-module _ (b : List ℕ) (bytes : Bytes b) (formed : WellFormed b) (i : ℕ) (l : i < slotsIn (length b)) (e : Entry) (here : readSlot b (slotAt i) ≡ held e) where
+module _ (b : List ℕ) (bytes : Bytes b) (formed : WellFormed b) (i : ℕ) (l : i < slotsIn (length b)) (e : Entry) (here : readSlot (drop base b) (320 * i) ≡ held e) where
   row : part (slotAt i) 320 b ≡ slotBytes (held e)
-  row = sym (formed-slot b bytes formed i l) ∙ ap slotBytes here
+  row = sym (part-drop base b (320 * i) 320) ∙ sym (formed-slot b bytes formed i l) ∙ ap slotBytes here
 
   pub establish-bytes : splice (slotAt i) 1 (bytesOf 1 6) b ≡ splice (slotAt i) 320 (slotBytes (held (establish e))) b
   unfolding rest bytesOf

@@ -1,8 +1,8 @@
 -- The first i slots changed: what a loop over the slots has done. Assumes nothing.
 use Prim.Native.Nat.{ℕ, zero, suc}
 use mathlib.Core.List.{List, [], _∷_}
-use Rattle.model.specs.Table.{Slot, Table}
-use Rattle.model.specs.Serve.{withSlots, freeIfRunOut}
+use Rattle.model.specs.Table.{Slot}
+use Rattle.model.specs.Serve.{freeIfRunOut}
 
 unfoldable pub firstChanged : ℕ → (Slot → Slot) → List Slot → List Slot
 firstChanged zero g s = s
@@ -10,5 +10,5 @@ firstChanged (suc i) g [] = []
 firstChanged (suc i) g (x ∷ s) = g x ∷ firstChanged i g s
 
 -- run-out entries freed in the slots below i
-abbrev pub freedTo : Table → ℕ → Table
-freedTo t i = withSlots t (firstChanged i (freeIfRunOut (t .clock .running)) (t .slots))
+abbrev pub freedTo : ℕ → List Slot → ℕ → List Slot
+freedTo running s i = firstChanged i (freeIfRunOut running) s

@@ -1,33 +1,36 @@
-// Changes of a table in place: a slot written, the clock moved and run-out entries freed, a table made.
+// Changes of a table in place: a slot written, the clock moved and run-out entries freed, a table made. `slots` and `lines` are the parts that start with the first of them.
 use clock::Clock;
 use entries::Entry;
+use layout::Layout;
 use record::State;
 ghost use mathlib.Core.Path.{_≡_};
 ghost use mathlib.Core.Bool.{true};
 ghost use mathlib.Core.List.{_∷_, [], map};
 ghost use Prim.Native.Nat.{_+_, _-_, _*_, _<_, _≤_};
 ghost use lib.ListN.{length};
-ghost use Rattle.model.specs.Lists.{count};
+ghost use Rattle.model.specs.Lists.{count, flat};
 ghost use Rattle.model.specs.Numbers.{bigEndian, bytesOf, part, splice, encode};
 ghost use Rattle.model.specs.Names.{fold};
 ghost use Rattle.model.specs.Clock.{cycle};
-ghost use Rattle.model.specs.Table.{slotAt, lineAt, sizeOf, readTable, tableBytes, slotBytes, unusedLine};
-ghost use Rattle.model.specs.Serve.{ended, slotRunOut, movedOn, freeRunOut};
+ghost use Rattle.model.specs.Table.{lineAt, sizeOf, readTable, tableBytes, slotBytes, unusedLine};
+ghost use Rattle.model.specs.Serve.{ended, slotRunOut, freeIfRunOut, movedOn};
 ghost use Rattle.model.specs.Calls.{freedBy, goodRoster};
-ghost use Rattle.table.specs.Written.{WellFormed, Written};
+ghost use Rattle.layout.specs.Shape.{slotsTo};
+ghost use Rattle.layout.specs.Places.{LayoutFor};
+ghost use Rattle.table.specs.Written.{WellFormed, FormedSlots, Written};
 ghost use Rattle.table.specs.Stored.{holderFields, leaseFields, nameBytes, entryBytes};
 ghost use Rattle.table.specs.Fresh.{unusedLines, freeSlots, fresh};
 
 // WRITERS OF A SLOT
 
 // An entry ends: slot i becomes free. Every slot that is freed is freed here, a made table's too.
-pub fn end_entry(t: &mut [u8], i: usize)
-    requires { ⌜ slotAt (i + 1) ≤ length (now t) ⌝ }
-    ensures { λ _. ⌜ now (t .exit) ≡ splice (slotAt i) 320 (slotBytes ended) (now (t .entry)) ⌝ }
+pub fn end_entry(slots: &mut [u8], i: usize)
+    requires { ⌜ 320 * (i + 1) ≤ length (now slots) ⌝ }
+    ensures { λ _. ⌜ now (slots .exit) ≡ splice (320 * i) 320 (slotBytes ended) (now (slots .entry)) ⌝ }
 {
-    let a = layout::SLOTS_AT + layout::SLOT * i;
-    octets::put8(t, a, record::kind_byte(State::Free));
-    octets::clear(t, a + 1, layout::SLOT_BODY);
+    let a = layout::SLOT * i;
+    octets::put8(slots, a, record::kind_byte(State::Free));
+    octets::clear(slots, a + 1, layout::SLOT_BODY);
 }
 
 // Kind, address, port and number.
@@ -77,39 +80,39 @@ fn put_slot(s: &mut [u8], e: Entry, d: &[u8], at: usize)
 }
 
 // An entry is stored in slot i, with the name that d has at a place, folded.
-pub fn put_entry(t: &mut [u8], i: usize, e: Entry, d: &[u8], at: usize)
-    requires { ⌜ (slotAt (i + 1) ≤ length (now t)) × (at + e .len ≤ length (now d)) ⌝ }
-    ensures { λ _. ⌜ now (t .exit) ≡ splice (slotAt i) 320 (entryBytes e (map fold (part at (e .len) (now (d .entry))))) (now (t .entry)) ⌝ }
+pub fn put_entry(slots: &mut [u8], i: usize, e: Entry, d: &[u8], at: usize)
+    requires { ⌜ (320 * (i + 1) ≤ length (now slots)) × (at + e .len ≤ length (now d)) ⌝ }
+    ensures { λ _. ⌜ now (slots .exit) ≡ splice (320 * i) 320 (entryBytes e (map fold (part at (e .len) (now (d .entry))))) (now (slots .entry)) ⌝ }
 {
-    let a = layout::SLOTS_AT + layout::SLOT * i;
+    let a = layout::SLOT * i;
     let z = a + layout::SLOT;
-    put_slot(&mut t[a..z], e, d, at)
+    put_slot(&mut slots[a..z], e, d, at)
 }
 
 // The entry of slot i is established: its state alone.
-pub fn establish_at(t: &mut [u8], i: usize)
-    requires { ⌜ slotAt (i + 1) ≤ length (now t) ⌝ }
-    ensures { λ _. ⌜ now (t .exit) ≡ splice (slotAt i) 1 (bytesOf 1 6) (now (t .entry)) ⌝ }
+pub fn establish_at(slots: &mut [u8], i: usize)
+    requires { ⌜ 320 * (i + 1) ≤ length (now slots) ⌝ }
+    ensures { λ _. ⌜ now (slots .exit) ≡ splice (320 * i) 1 (bytesOf 1 6) (now (slots .entry)) ⌝ }
 {
-    let a = layout::SLOTS_AT + layout::SLOT * i;
-    octets::put8(t, a, record::kind_byte(State::Established))
+    let a = layout::SLOT * i;
+    octets::put8(slots, a, record::kind_byte(State::Established))
 }
 
 // The entry of slot i gets a lease and a stamp.
-pub fn renew_at(t: &mut [u8], i: usize, lease: u32, stamp: u32)
-    requires { ⌜ slotAt (i + 1) ≤ length (now t) ⌝ }
-    ensures { λ _. ⌜ now (t .exit) ≡ splice (slotAt i + 27) 8 (encode ((4, lease) ∷ (4, stamp) ∷ [])) (now (t .entry)) ⌝ }
+pub fn renew_at(slots: &mut [u8], i: usize, lease: u32, stamp: u32)
+    requires { ⌜ 320 * (i + 1) ≤ length (now slots) ⌝ }
+    ensures { λ _. ⌜ now (slots .exit) ≡ splice (320 * i + 27) 8 (encode ((4, lease) ∷ (4, stamp) ∷ [])) (now (slots .entry)) ⌝ }
 {
-    let a = layout::SLOTS_AT + layout::SLOT * i;
-    octets::put32(t, a + layout::LEASE_AT, lease);
-    octets::put32(t, a + layout::STAMP_AT, stamp);
+    let a = layout::SLOT * i;
+    octets::put32(slots, a + layout::LEASE_AT, lease);
+    octets::put32(slots, a + layout::STAMP_AT, stamp);
 }
 
 // THE CLOCK, AND WHAT HAS RUN OUT
 
 // The clock's two numbers are written.
 fn put_clock(t: &mut [u8], c: Clock)
-    requires { ⌜ 9 ≤ length (now t) ⌝ }
+    requires { ⌜ lineAt 0 ≤ length (now t) ⌝ }
     ensures { λ _. ⌜ now (t .exit) ≡ splice 1 8 (encode ((4, c .place) ∷ (4, c .running) ∷ [])) (now (t .entry)) ⌝ }
 {
     octets::put32(t, layout::PLACE_AT, c.place);
@@ -117,15 +120,15 @@ fn put_clock(t: &mut [u8], c: Clock)
 }
 
 // Entries that have run out end. Returns how many there were.
-fn free_run_out(t: &mut [u8], n: usize, running: u32) -> usize
-    requires { ⌜ (length (now t) ≡ sizeOf n) × (running ≡ bigEndian (now t) 5 4) × WellFormed (now t) ⌝ }
-    ensures { λ r. ⌜ Written (now (t .exit)) (freeRunOut (readTable (now (t .entry)))) × (r ≡ count (readTable (now (t .entry)) .slots) (slotRunOut running)) ⌝ }
+fn free_run_out(slots: &mut [u8], n: usize, running: u32) -> usize
+    requires { ⌜ (320 * n ≤ length (now slots)) × FormedSlots (now slots) n ⌝ }
+    ensures { λ r. ⌜ (now (slots .exit) ≡ flat slotBytes (map (freeIfRunOut running) (slotsTo (now (slots .entry)) n))) × (r ≡ count (slotsTo (now (slots .entry)) n) (slotRunOut running)) ⌝ }
 {
     let mut k: usize = 0;
     let mut i = 0;
     while i < n {
-        if entries::run_out(t, i, running) {
-            end_entry(t, i);
+        if entries::run_out(slots, i, running) {
+            end_entry(slots, i);
             k += 1;
         }
         i += 1;
@@ -134,11 +137,10 @@ fn free_run_out(t: &mut [u8], n: usize, running: u32) -> usize
 }
 
 // The clock is moved on to a place, then run-out entries end. Returns how many there were. No entry had run out before: while the count stays, none does.
-pub fn move_on(t: &mut [u8], place: u32) -> usize
-    requires { ⌜ WellFormed (now t) × (bigEndian (now t) 1 4 < cycle) × (place < cycle) × (count (readTable (now t) .slots) (slotRunOut (bigEndian (now t) 5 4)) ≡ 0) ⌝ }
+pub fn move_on(t: &mut [u8], l: Layout, place: u32) -> usize
+    requires { ⌜ WellFormed (now t) × LayoutFor l (length (now t)) × (bigEndian (now t) 1 4 < cycle) × (place < cycle) × (count (readTable (now t) .slots) (slotRunOut (bigEndian (now t) 5 4)) ≡ 0) ⌝ }
     ensures { λ r. ⌜ Written (now (t .exit)) (movedOn (readTable (now (t .entry))) place) × (r ≡ freedBy (readTable (now (t .entry))) place) ⌝ }
 {
-    let n = layout::slots(t.len());
     let c = Clock {
         place: octets::get32(t, layout::PLACE_AT),
         running: octets::get32(t, layout::RUNNING_AT),
@@ -148,54 +150,57 @@ pub fn move_on(t: &mut [u8], place: u32) -> usize
     if d.running == c.running {
         return 0;
     }
-    free_run_out(t, n, d.running)
+    let a = l.slots_at;
+    free_run_out(&mut t[a..], l.n, d.running)
 }
 
 // MAKING
 
 // Line i becomes unused.
-fn clear_line(t: &mut [u8], i: usize)
-    requires { ⌜ lineAt (i + 1) ≤ length (now t) ⌝ }
-    ensures { λ _. ⌜ now (t .exit) ≡ splice (lineAt i) 19 unusedLine (now (t .entry)) ⌝ }
+fn clear_line(lines: &mut [u8], i: usize)
+    requires { ⌜ 19 * (i + 1) ≤ length (now lines) ⌝ }
+    ensures { λ _. ⌜ now (lines .exit) ≡ splice (19 * i) 19 unusedLine (now (lines .entry)) ⌝ }
 {
-    let a = layout::LINES_AT + layout::LINE * i;
-    octets::put8(t, a, layout::UNUSED_KIND);
-    octets::clear(t, a + 1, layout::LINE_BODY);
+    let a = layout::LINE * i;
+    octets::put8(lines, a, layout::UNUSED_KIND);
+    octets::clear(lines, a + 1, layout::LINE_BODY);
 }
 
 // The lines from m on become unused.
-fn clear_lines(t: &mut [u8], m: usize)
-    requires { ⌜ (m ≤ 16) × (313 ≤ length (now t)) ⌝ }
-    ensures { λ _. ⌜ now (t .exit) ≡ splice (lineAt m) (19 * (16 - m)) (unusedLines (16 - m)) (now (t .entry)) ⌝ }
+fn clear_lines(lines: &mut [u8], m: usize)
+    requires { ⌜ (m ≤ 16) × (304 ≤ length (now lines)) ⌝ }
+    ensures { λ _. ⌜ now (lines .exit) ≡ splice (19 * m) (19 * (16 - m)) (unusedLines (16 - m)) (now (lines .entry)) ⌝ }
 {
     let mut k = 0;
     while k < layout::LINES - m {
-        clear_line(t, m + k);
+        clear_line(lines, m + k);
         k += 1;
     }
 }
 
 // Slots below n become free.
-fn clear_slots(t: &mut [u8], n: usize)
-    requires { ⌜ slotAt n ≤ length (now t) ⌝ }
-    ensures { λ _. ⌜ now (t .exit) ≡ splice 313 (320 * n) (freeSlots n) (now (t .entry)) ⌝ }
+fn clear_slots(slots: &mut [u8], n: usize)
+    requires { ⌜ 320 * n ≤ length (now slots) ⌝ }
+    ensures { λ _. ⌜ now (slots .exit) ≡ splice 0 (320 * n) (freeSlots n) (now (slots .entry)) ⌝ }
 {
     let mut i = 0;
     while i < n {
-        end_entry(t, i);
+        end_entry(slots, i);
         i += 1;
     }
 }
 
 // A table made: the place, running count 0, the roster in the order given, and free slots.
-pub fn make_fresh(t: &mut [u8], n: usize, place: u32, roster: &[u8])
-    requires { ⌜ (length (now t) ≡ sizeOf n) × (goodRoster n (now roster) ≡ true) ⌝ }
-    ensures { λ _. ⌜ now (t .exit) ≡ tableBytes (fresh place (now (roster .entry)) n) ⌝ }
+pub fn make_fresh(t: &mut [u8], l: Layout, place: u32, roster: &[u8])
+    requires { ⌜ LayoutFor l (length (now t)) × (length (now t) ≡ sizeOf (l .n)) × (goodRoster (l .n) (now roster) ≡ true) ⌝ }
+    ensures { λ _. ⌜ now (t .exit) ≡ tableBytes (fresh place (now (roster .entry)) (l .n)) ⌝ }
 {
     let k = roster.len();
+    let a = l.lines_at;
+    let z = l.slots_at;
     octets::put8(t, 0, layout::CLOCK_KIND);
     put_clock(t, Clock { place, running: 0 });
-    octets::copy(t, layout::LINES_AT, roster, 0, k);
-    clear_lines(t, k / layout::LINE);
-    clear_slots(t, n);
+    octets::copy(t, a, roster, 0, k);
+    clear_lines(&mut t[a..], k / layout::LINE);
+    clear_slots(&mut t[z..], l.n);
 }

@@ -13,9 +13,6 @@ use Rattle.octets.proofs.get64.Reads as get64-reads
 mul-a : tie.Need-mul-a
 mul-a c = search needs
 
-add-a : tie.Need-add-a
-add-a c = search needs
-
 shared-slice-read-state-of : tie.Need-shared-slice-read-state-of
 shared-slice-read-state-of c = search needs
 
@@ -85,7 +82,6 @@ entry-at-spec =
     tie.close
     (tie.spec
     mul-a
-    add-a
     shared-slice-read-state-of
     state-of-requires
     add-get64

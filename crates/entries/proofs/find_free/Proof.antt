@@ -15,19 +15,16 @@ use Rattle.entries.proofs.find_free.Lts as lts
 use Rattle.record.proofs.in_use.Reads as in-use-reads
 
 abbrev Inv-loop : tie.InvT-loop
-Inv-loop t n i₀ i = (i ≤ n) × noneTo t isFree i
+Inv-loop slots n i₀ i = (i ≤ n) × noneTo slots isFree i
 
 abbrev μ-loop : tie.MeasureT-loop
-μ-loop t n i₀ i = n - i
+μ-loop slots n i₀ i = n - i
 
 loop-holds : tie.Need-loop-holds Inv-loop μ-loop
 loop-holds c = (search needs, law.none-yet _ _)
 
 mul-in-use : tie.Need-mul-in-use Inv-loop μ-loop
 mul-in-use c = search needs
-
-add-in-use : tie.Need-add-in-use Inv-loop μ-loop
-add-in-use c = search needs
 
 shared-slice-read-in-use : tie.Need-shared-slice-read-in-use Inv-loop μ-loop
 shared-slice-read-in-use c = search needs
@@ -37,7 +34,7 @@ in-use-requires c κs = search needs
 
 returns : tie.Need-returns Inv-loop μ-loop
 returns c =
-    sym (law.index-here _ _ (c .before .before .before .before .before .before .pre) isFree (c .before .before .before .before .loop .i) (omega arith) (c .before .before .before .before .loop .inv .1) (ap isFree (read-free _ _ (sym (c .before .in-use .ensures) ∙ not-true _ (c .if1 .taken)))))
+    sym (law.index-here _ _ isFree (c .before .before .before .before .loop .i) (omega arith) (c .before .before .before .before .loop .inv .1) (ap isFree (read-free _ _ (sym (c .before .in-use .ensures) ∙ not-true _ (c .if1 .taken)))))
 
 add-i : tie.Need-add-i Inv-loop μ-loop
 add-i c = search needs
@@ -52,7 +49,7 @@ loop-again c =
 returns-2 : tie.Need-returns-2 Inv-loop μ-loop
 returns-2 c =
     let e : c .before .loop .i ≡ c .before .before .before .args .n = omega arith in
-    sym (law.index-none-here _ _ (c .before .before .before .pre) isFree (rw e at (c .before .loop .inv .1)))
+    sym (law.index-none-here _ _ isFree (rw e at (c .before .loop .inv .1)))
 
 pub find-free-spec : {M : Type 1} → statement M
 find-free-spec =
@@ -62,7 +59,6 @@ find-free-spec =
     μ-loop
     loop-holds
     mul-in-use
-    add-in-use
     shared-slice-read-in-use
     in-use-requires
     returns

@@ -5,8 +5,8 @@ use mathlib.Core.Path.{_≡_, refl, sym, _∙_}
 use borrow.Author.Needs.{needs}
 use borrow.Author.Tests.{not-true, not-false}
 use Rattle.model.specs.Lists.{count}
-use Rattle.model.specs.Table.{readTable}
-use Rattle.model.specs.Rules.{holdings, freshNumber}
+use Rattle.model.specs.Rules.{freshNumber}
+use Rattle.layout.specs.Held.{heldTo}
 use Rattle.entries.proofs.Laws as law
 use Rattle.entries.proofs.fresh_number.Statement.{statement}
 use Rattle.entries.proofs.fresh_number.Tie as tie
@@ -16,12 +16,12 @@ use Rattle.entries.proofs.not_granted.Reads as not-granted-reads
 use Rattle.std.proofs.num.wrapping_add_u64.Reads as wrapping-add-u64-reads
 
 abbrev Inv-loop : tie.InvT-loop
-Inv-loop t n r x₀ k₀ x k =
+Inv-loop slots n r x₀ k₀ x k =
     (k ≤ n + 2) × (x < 2 ^ 64)
-    × (freshNumber (n + 2) (count (holdings (readTable t))) r ≡ freshNumber k (count (holdings (readTable t))) x)
+    × (freshNumber (n + 2) (count (heldTo 0 slots n)) r ≡ freshNumber k (count (heldTo 0 slots n)) x)
 
 abbrev μ-loop : tie.MeasureT-loop
-μ-loop t n r x₀ k₀ x k = k
+μ-loop slots n r x₀ k₀ x k = k
 
 add-k : tie.Need-add-k Inv-loop μ-loop
 add-k c = search needs

@@ -25,16 +25,16 @@ limit-of-requires c κs = search needs
 
 returns : tie.Need-returns
 returns c =
-    let a = c .before .before .before .before .before .args in
-    sym (law.full-limit (a .t .now) (a .n) (addressOf (a .high) (a .low)) (c .before .before .before .before .before .pre) (c .before .before .before .listed-lines .ensures .0) (c .before .before .held-by .ensures .1) (c .before .limit-of .ensures) (c .if1 .taken))
+    let a = c .before .before .before .before .before .before .args in
+    sym (law.full-limit (a .lines .now) (a .slots .now) (a .n) (addressOf (a .high) (a .low)) (c .before .before .before .listed-lines .ensures .0) (c .before .before .held-by .ensures .1) (c .before .limit-of .ensures) (c .if1 .taken))
 
 share-of-requires : tie.Need-share-of-requires
 share-of-requires c κs = search needs
 
 returns-2 : tie.Need-returns-2
 returns-2 c =
-    let a = c .before .before .before .before .before .before .before .args in
-    sym (law.full-share (a .t .now) (a .n) (addressOf (a .high) (a .low)) (c .before .before .before .before .before .before .before .pre) (c .before .before .before .before .before .listed-lines .ensures .0) (c .before .before .before .before .held-by .ensures .1) (c .before .before .before .limit-of .ensures) (c .before .before .if1 .left) (c .before .share-of .ensures) (c .if2 .taken))
+    let a = c .before .before .before .before .before .before .before .before .args in
+    sym (law.full-share (a .lines .now) (a .slots .now) (a .n) (addressOf (a .high) (a .low)) (c .before .before .before .before .before .listed-lines .ensures .0) (c .before .before .before .before .held-by .ensures .1) (c .before .before .before .limit-of .ensures) (c .before .before .if1 .left) (c .before .share-of .ensures) (c .if2 .taken))
 
 held-requires : tie.Need-held-requires
 held-requires c κs = search needs
@@ -47,8 +47,8 @@ reserve-of-requires c κs = search needs
 
 returns-3 : tie.Need-returns-3
 returns-3 c =
-    let a = c .before .before .before .before .before .before .before .before .before .args in
-    sym (law.full-room (a .t .now) (a .n) (addressOf (a .high) (a .low)) (c .before .before .before .before .before .before .before .before .before .pre) (c .before .before .before .before .before .before .before .listed-lines .ensures .0) (c .before .before .before .before .before .before .held-by .ensures .1) (c .before .before .before .before .before .limit-of .ensures) (c .before .before .before .before .if1 .left) (c .before .before .before .share-of .ensures)
+    let a = c .before .before .before .before .before .before .before .before .before .before .args in
+    sym (law.full-room (a .lines .now) (a .slots .now) (a .n) (addressOf (a .high) (a .low)) (c .before .before .before .before .before .before .before .listed-lines .ensures .0) (c .before .before .before .before .before .before .held-by .ensures .1) (c .before .before .before .before .before .limit-of .ensures) (c .before .before .before .before .if1 .left) (c .before .before .before .share-of .ensures)
     (c .before .before .if2 .left) (c .before .held .ensures .1) (c .reserve-of .ensures .1))
 
 pub is-full-spec : {M : Type 1} → statement M

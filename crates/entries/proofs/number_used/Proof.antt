@@ -3,7 +3,6 @@ use Prim.Native.Nat.{_-_, _≤_}
 use native.Mathlib.Omega.{arith}
 use mathlib.Core.Path.{_≡_, sym, _∙_}
 use borrow.Author.Needs.{needs}
-use Rattle.model.specs.Numbers.{bigEndian}
 use Rattle.model.specs.Rules.{numbered}
 use Rattle.model.specs.Serve.{has}
 use Rattle.layout.specs.Held.{holdingAt}
@@ -16,10 +15,10 @@ use Rattle.entries.proofs.number_used.Lts as lts
 use Rattle.record.proofs.has_number.Reads as has-number-reads
 
 abbrev Inv-loop : tie.InvT-loop
-Inv-loop t n x i₀ i = (i ≤ n) × noneTo t (has (bigEndian t 5 4) (numbered (x .0))) i
+Inv-loop slots n x i₀ i = (i ≤ n) × noneTo slots (has 0 (numbered (x .0))) i
 
 abbrev μ-loop : tie.MeasureT-loop
-μ-loop t n x i₀ i = n - i
+μ-loop slots n x i₀ i = n - i
 
 loop-holds : tie.Need-loop-holds Inv-loop μ-loop
 loop-holds c = (search needs, law.none-yet _ _)
@@ -27,16 +26,13 @@ loop-holds c = (search needs, law.none-yet _ _)
 mul-has-number : tie.Need-mul-has-number Inv-loop μ-loop
 mul-has-number c = search needs
 
-add-has-number : tie.Need-add-has-number Inv-loop μ-loop
-add-has-number c = search needs
-
 has-number-requires : tie.Need-has-number-requires Inv-loop μ-loop
 has-number-requires c κs = search needs
 
 returns : tie.Need-returns Inv-loop μ-loop
 unfolding holdingAt
 returns c =
-    sym (law.used-hit _ _ (c .before .before .before .before .before .pre) _ (c .before .before .before .loop .i) (omega arith) (law.has-is _ _ _ _ ∙ sym (c .before .has-number .ensures) ∙ c .if1 .taken))
+    sym (law.used-hit _ _ _ (c .before .before .before .loop .i) (omega arith) (law.has-is _ _ _ _ ∙ sym (c .before .has-number .ensures) ∙ c .if1 .taken))
 
 add-i : tie.Need-add-i Inv-loop μ-loop
 add-i c = search needs
@@ -52,7 +48,7 @@ loop-again c =
 returns-2 : tie.Need-returns-2 Inv-loop μ-loop
 returns-2 c =
     let e : c .before .loop .i ≡ c .before .before .before .args .n = omega arith in
-    sym (law.used-none _ _ (c .before .before .before .pre) _ (rw e at (c .before .loop .inv .1)))
+    sym (law.used-none _ _ _ (rw e at (c .before .loop .inv .1)))
 
 pub number-used-spec : {M : Type 1} → statement M
 number-used-spec =
@@ -62,7 +58,6 @@ number-used-spec =
     μ-loop
     loop-holds
     mul-has-number
-    add-has-number
     has-number-requires
     returns
     add-i

@@ -1,7 +1,6 @@
 -- `entries::run_out` meets its contract: by the state. Assumes nothing.
-use mathlib.Core.Path.{sym, ap, _∙_}
+use Prim.Native.Nat.{_*_}
 use lib.ListN.{getD}
-use Rattle.model.specs.Table.{slotAt, readSlot}
 use Rattle.model.specs.Serve.{slotRunOut}
 use Rattle.layout.proofs.ReadLaws.{read-held, read-free}
 use Rattle.record.proofs.StateLaws.{kind-in}
@@ -16,9 +15,6 @@ use Rattle.record.proofs.state_of.Reads as state-of-reads
 
 mul-a : tie.Need-mul-a
 mul-a c = search needs
-
-add-a : tie.Need-add-a
-add-a c = search needs
 
 shared-slice-read-state-of : tie.Need-shared-slice-read-state-of
 shared-slice-read-state-of c = search needs
@@ -44,22 +40,22 @@ entry-run-out-requires-2 c κs = search needs
 returns : tie.Need-returns
 unfolding slotRunOut
 returns c =
-    let b = c .before .before .before .before .before .args .t .now in
-    let at = slotAt (c .before .before .before .before .before .args .i) in
+    let b = c .before .before .before .before .before .args .slots .now in
+    let at = 320 * c .before .before .before .before .before .args .i in
     rw (read-free b at (kind-in (getD b at 0) _ Free (c .before .before .state-of .ensures) (c .enum-told .given .1)))
 
 returns-2 : tie.Need-returns-2
 unfolding slotRunOut
 returns-2 c =
-    let b = c .before .before .before .before .before .before .args .t .now in
-    let at = slotAt (c .before .before .before .before .before .before .args .i) in
+    let b = c .before .before .before .before .before .before .args .slots .now in
+    let at = 320 * c .before .before .before .before .before .before .args .i in
     rw (read-held b at (kind-in (getD b at 0) _ Pending (c .before .before .before .state-of .ensures) (c .before .enum-told2 .given .1))) (c .entry-run-out .ensures)
 
 returns-3 : tie.Need-returns-3
 unfolding slotRunOut
 returns-3 c =
-    let b = c .before .before .before .before .before .before .args .t .now in
-    let at = slotAt (c .before .before .before .before .before .before .args .i) in
+    let b = c .before .before .before .before .before .before .args .slots .now in
+    let at = 320 * c .before .before .before .before .before .before .args .i in
     rw (read-held b at (kind-in (getD b at 0) _ Established (c .before .before .before .state-of .ensures) (c .before .enum-told3 .given .1))) (c .entry-run-out2 .ensures)
 
 pub run-out-spec : {M : Type 1} → statement M
@@ -67,7 +63,6 @@ run-out-spec =
     tie.close
     (tie.spec
     mul-a
-    add-a
     shared-slice-read-state-of
     state-of-requires
     enum-told

@@ -1,11 +1,9 @@
 -- `entries::slot_answers` meets its contract: number, span, and then whose it is. Assumes nothing.
-use Prim.Native.Nat.{ℕ}
+use Prim.Native.Nat.{ℕ, _*_}
 use mathlib.Core.Path.{_≡_, sym, ap, _∙_}
 use mathlib.Core.Bool.{and-true, and-false}
 use borrow.Author.Tests.{eq-eqb, ne-eqb}
-use Rattle.model.specs.Numbers.{bigEndian}
-use Rattle.model.specs.Clock.{ageAt}
-use Rattle.model.specs.Table.{slotAt, readEntry}
+use Rattle.model.specs.Table.{readEntry}
 use Rattle.model.specs.Serve.{inSpan}
 use Rattle.entries.specs.declared.Entry.{Entry}
 use Rattle.entries.specs.Reads.{entryAt}
@@ -25,11 +23,8 @@ unfolding entryAt readEntry
 returns c =
     let z = c .before .before .before .before .before .before in
     let a = z .args in
-    let own : a .e .number .0 ≡ readEntry (a .t .now) (slotAt (a .i)) .number = ap (λ (x : Entry). x .number .0) (z .pre .1) in
-    sym (law.has-never _ _ (a .t .now) (slotAt (a .i)) (rw (← own, ne-eqb _ _ (c .if1 .taken))))
-
-get32-requires : tie.Need-get32-requires
-get32-requires c κs = search needs
+    let own : a .e .number .0 ≡ readEntry (a .slots .now) (320 * a .i) .number = ap (λ (x : Entry). x .number .0) (z .pre .1) in
+    sym (law.has-never _ _ (a .slots .now) (320 * a .i) (rw (← own, ne-eqb _ _ (c .if1 .taken))))
 
 age-requires : tie.Need-age-requires
 age-requires c κs = search needs
@@ -43,22 +38,22 @@ slot-asks-requires c κs = search needs
 returns-2 : tie.Need-returns-2
 unfolding entryAt readEntry
 returns-2 c =
-    let z = c .before .before .before .before .before .before .before .before .before .before .before in
+    let z = c .before .before .before .before .before .before .before .before .before .before in
     let a = z .args in
-    let own : a .e .number .0 ≡ readEntry (a .t .now) (slotAt (a .i)) .number = ap (λ (x : Entry). x .number .0) (z .pre .1) in
-    let age = c .before .before .before .age .ensures ∙ ap (λ (r : ℕ). ageAt r (a .e .stamp)) (c .before .before .before .before .get32 .ensures) in
-    let right = law.span-read (a .t .now) (slotAt (a .i)) (a .e) (z .pre .1) (bigEndian (a .t .now) 5 4) (a .number .0) (a .lease) in
+    let own : a .e .number .0 ≡ readEntry (a .slots .now) (320 * a .i) .number = ap (λ (x : Entry). x .number .0) (z .pre .1) in
+    let age = c .before .before .before .age .ensures in
+    let right = law.span-read (a .slots .now) (320 * a .i) (a .e) (z .pre .1) (a .running) (a .number .0) (a .lease) in
     let within = sym right ∙ ap (λ (k : ℕ). inSpan (a .e .lease) k (a .lease)) (sym age) ∙ sym (c .before .before .in-span .ensures) ∙ c .before .if2 .taken in
-    c .slot-asks .ensures ∙ sym (law.has-same _ _ _ (a .t .now) (slotAt (a .i)) (rw (within, ← own, eq-eqb _ _ (c .before .before .before .before .before .if1 .left), and-true)))
+    c .slot-asks .ensures ∙ sym (law.has-same _ _ _ _ (a .slots .now) (320 * a .i) (rw (within, ← own, eq-eqb _ _ (c .before .before .before .before .if1 .left), and-true)))
 
 returns-3 : tie.Need-returns-3
 returns-3 c =
-    let z = c .before .before .before .before .before .before .before .before .before .before in
+    let z = c .before .before .before .before .before .before .before .before .before in
     let a = z .args in
-    let age = c .before .before .age .ensures ∙ ap (λ (r : ℕ). ageAt r (a .e .stamp)) (c .before .before .before .get32 .ensures) in
-    let right = law.span-read (a .t .now) (slotAt (a .i)) (a .e) (z .pre .1) (bigEndian (a .t .now) 5 4) (a .number .0) (a .lease) in
+    let age = c .before .before .age .ensures in
+    let right = law.span-read (a .slots .now) (320 * a .i) (a .e) (z .pre .1) (a .running) (a .number .0) (a .lease) in
     let out = sym right ∙ ap (λ (k : ℕ). inSpan (a .e .lease) k (a .lease)) (sym age) ∙ sym (c .before .in-span .ensures) ∙ c .if2 .left in
-    sym (law.has-never _ _ (a .t .now) (slotAt (a .i)) (rw (out, and-false)))
+    sym (law.has-never _ _ (a .slots .now) (320 * a .i) (rw (out, and-false)))
 
 pub slot-answers-spec : {M : Type 1} → statement M
-slot-answers-spec = tie.close (tie.spec returns get32-requires age-requires in-span-requires slot-asks-requires returns-2 returns-3)
+slot-answers-spec = tie.close (tie.spec returns age-requires in-span-requires slot-asks-requires returns-2 returns-3)

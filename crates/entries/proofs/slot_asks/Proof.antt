@@ -1,8 +1,6 @@
 -- `entries::slot_asks` meets its contract: by the state. Assumes nothing.
-use native.Mathlib.Omega.{arith}
-use mathlib.Core.Path.{_≡_, sym, ap, _∙_}
-use lib.ListN.{getD}
-use Rattle.model.specs.Table.{slotAt}
+use Prim.Native.Nat.{_*_}
+use mathlib.Core.Path.{sym}
 use Rattle.layout.specs.Held.{holdingAt}
 use Rattle.record.specs.declared.State.the-variants.{Free, Pending, Established}
 use Rattle.entries.proofs.Laws as law
@@ -15,9 +13,6 @@ use Rattle.entries.proofs.entry_asks.Reads as entry-asks-reads
 
 mul-a : tie.Need-mul-a
 mul-a c = search needs
-
-add-a : tie.Need-add-a
-add-a c = search needs
 
 enum-told : tie.Need-enum-told
 enum-told c = search needs
@@ -38,28 +33,27 @@ returns : tie.Need-returns
 returns c =
     let z = c .before .before .before .before in
     let a = z .args in
-    sym (law.has-out _ _ (a .t .now) (slotAt (a .i)) (law.state-in (a .t .now) (slotAt (a .i)) (a .e) (z .pre .1) Free (c .enum-told .given .1)))
+    sym (law.has-out _ _ (a .slots .now) (320 * a .i) (law.state-in (a .slots .now) (320 * a .i) (a .e) (z .pre .1) Free (c .enum-told .given .1)))
 
 returns-2 : tie.Need-returns-2
 unfolding holdingAt
 returns-2 c =
     let z = c .before .before .before .before .before in
     let a = z .args in
-    rw (law.has-in _ _ (a .t .now) (slotAt (a .i)) (law.state-in (a .t .now) (slotAt (a .i)) (a .e) (z .pre .1) Pending (c .before .enum-told2 .given .1))) (c .entry-asks .ensures)
+    rw (law.has-in _ _ (a .slots .now) (320 * a .i) (law.state-in (a .slots .now) (320 * a .i) (a .e) (z .pre .1) Pending (c .before .enum-told2 .given .1))) (c .entry-asks .ensures)
 
 returns-3 : tie.Need-returns-3
 unfolding holdingAt
 returns-3 c =
     let z = c .before .before .before .before .before in
     let a = z .args in
-    rw (law.has-in _ _ (a .t .now) (slotAt (a .i)) (law.state-in (a .t .now) (slotAt (a .i)) (a .e) (z .pre .1) Established (c .before .enum-told3 .given .1))) (c .entry-asks2 .ensures)
+    rw (law.has-in _ _ (a .slots .now) (320 * a .i) (law.state-in (a .slots .now) (320 * a .i) (a .e) (z .pre .1) Established (c .before .enum-told3 .given .1))) (c .entry-asks2 .ensures)
 
 pub slot-asks-spec : {M : Type 1} → statement M
 slot-asks-spec =
     tie.close
     (tie.spec
     mul-a
-    add-a
     enum-told
     enum-told-2
     entry-asks-requires

@@ -15,19 +15,16 @@ use Rattle.holdings.proofs.held.Lts as lts
 use Rattle.record.proofs.in_use.Reads as in-use-reads
 
 abbrev Inv-loop : tie.InvT-loop
-Inv-loop t n k₀ i₀ k i = (i ≤ n) × (k ≤ i) × (k ≡ count (heldTo t i) any)
+Inv-loop slots n k₀ i₀ k i = (i ≤ n) × (k ≤ i) × (k ≡ count (heldTo 0 slots i) any)
 
 abbrev μ-loop : tie.MeasureT-loop
-μ-loop t n k₀ i₀ k i = n - i
+μ-loop slots n k₀ i₀ k i = n - i
 
 loop-holds : tie.Need-loop-holds Inv-loop μ-loop
 loop-holds c = (search needs, search needs, rw held-none)
 
 mul-in-use : tie.Need-mul-in-use Inv-loop μ-loop
 mul-in-use c = search needs
-
-add-in-use : tie.Need-add-in-use Inv-loop μ-loop
-add-in-use c = search needs
 
 shared-slice-read-in-use : tie.Need-shared-slice-read-in-use Inv-loop μ-loop
 shared-slice-read-in-use c = search needs
@@ -49,8 +46,8 @@ loop-again c =
     let l = c .before .before .before .before .loop in
     let s = sym (c .before .in-use .ensures) in
     ⊎-elim
-    (λ w. (omega arith, omega arith, rw (w .1) (count-hit _ (l .i) any (l .k) (ap (λ (v : Bool). v && true) (s ∙ w .0 .taken)) (l .inv .2))))
-    (λ w. (omega arith, omega arith, rw (w .1) (count-miss _ (l .i) any (l .k) (ap (λ (v : Bool). v && true) (s ∙ w .0 .left)) (l .inv .2))))
+    (λ w. (omega arith, omega arith, rw (w .1) (count-hit 0 _ (l .i) any (l .k) (ap (λ (v : Bool). v && true) (s ∙ w .0 .taken)) (l .inv .2))))
+    (λ w. (omega arith, omega arith, rw (w .1) (count-miss 0 _ (l .i) any (l .k) (ap (λ (v : Bool). v && true) (s ∙ w .0 .left)) (l .inv .2))))
     (c .if1 .came)
 
 returns : tie.Need-returns Inv-loop μ-loop
@@ -66,7 +63,6 @@ held-spec =
     μ-loop
     loop-holds
     mul-in-use
-    add-in-use
     shared-slice-read-in-use
     in-use-requires
     add-k

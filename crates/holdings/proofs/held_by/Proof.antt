@@ -15,19 +15,16 @@ use Rattle.holdings.proofs.held_by.Lts as lts
 use Rattle.record.proofs.has_holder.Reads as has-holder-reads
 
 abbrev Inv-loop : tie.InvT-loop
-Inv-loop t n hi lo k₀ i₀ k i = (i ≤ n) × (k ≤ i) × (k ≡ count (heldTo t i) (heldBy (hi * 2 ^ 64 + lo)))
+Inv-loop slots n hi lo k₀ i₀ k i = (i ≤ n) × (k ≤ i) × (k ≡ count (heldTo 0 slots i) (heldBy (hi * 2 ^ 64 + lo)))
 
 abbrev μ-loop : tie.MeasureT-loop
-μ-loop t n hi lo k₀ i₀ k i = n - i
+μ-loop slots n hi lo k₀ i₀ k i = n - i
 
 loop-holds : tie.Need-loop-holds Inv-loop μ-loop
 loop-holds c = (search needs, search needs, rw held-none)
 
 mul-has-holder : tie.Need-mul-has-holder Inv-loop μ-loop
 mul-has-holder c = search needs
-
-add-has-holder : tie.Need-add-has-holder Inv-loop μ-loop
-add-has-holder c = search needs
 
 has-holder-requires : tie.Need-has-holder-requires Inv-loop μ-loop
 has-holder-requires c κs = search needs
@@ -46,8 +43,8 @@ loop-again c =
     let l = c .before .before .before .loop in
     let s = sym (c .before .has-holder .ensures) in
     ⊎-elim
-    (λ w. (omega arith, omega arith, rw (w .1) (count-hit _ (l .i) _ (l .k) (s ∙ w .0 .taken) (l .inv .2))))
-    (λ w. (omega arith, omega arith, rw (w .1) (count-miss _ (l .i) _ (l .k) (s ∙ w .0 .left) (l .inv .2))))
+    (λ w. (omega arith, omega arith, rw (w .1) (count-hit 0 _ (l .i) _ (l .k) (s ∙ w .0 .taken) (l .inv .2))))
+    (λ w. (omega arith, omega arith, rw (w .1) (count-miss 0 _ (l .i) _ (l .k) (s ∙ w .0 .left) (l .inv .2))))
     (c .if1 .came)
 
 returns : tie.Need-returns Inv-loop μ-loop
@@ -63,7 +60,6 @@ held-by-spec =
     μ-loop
     loop-holds
     mul-has-holder
-    add-has-holder
     has-holder-requires
     add-k
     add-i

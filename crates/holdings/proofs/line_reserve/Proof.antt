@@ -2,7 +2,7 @@
 use Prim.Native.Nat.{_+_, _*_}
 use native.Mathlib.Omega.{arith}
 use borrow.Author.Needs.{needs}
-use Rattle.model.specs.Table.{lineAt, readLine}
+use Rattle.model.specs.Table.{readLine}
 use Rattle.layout.proofs.AddressLaws.{address-is}
 use Rattle.holdings.proofs.line_reserve.Statement.{statement}
 use Rattle.holdings.proofs.line_reserve.Tie as tie
@@ -14,9 +14,6 @@ use Rattle.holdings.proofs.share_less_held.Reads as share-less-held-rea
 mul-a : tie.Need-mul-a
 mul-a c = search needs
 
-add-a : tie.Need-add-a
-add-a c = search needs
-
 add-share : tie.Need-add-share
 add-share c = search needs
 
@@ -24,7 +21,7 @@ shared-slice-read-share : tie.Need-shared-slice-read-share
 shared-slice-read-share c = search needs
 
 cast-share : tie.Need-cast-share
-cast-share c = omega (arith, c .shared-slice-known2 .given (9 + 19 * c .before .before .args .i + 17))
+cast-share c = omega (arith, c .shared-slice-known3 .given (19 * c .before .before .before .args .i + 17))
 
 returns : tie.Need-returns
 unfolding readLine
@@ -48,17 +45,16 @@ share-less-held-requires c κs = search needs
 returns-2 : tie.Need-returns-2
 unfolding readLine
 returns-2 c =
-    let z = c .before .before .before .before .before .before in
-    let e = address-is (z .args .t .now) (lineAt (z .args .i)) (c .before .before .get64 .ensures) (c .before .get642 .ensures) in
+    let z = c .before .before .before .before .before .before .before in
+    let e = address-is (z .args .lines .now) (19 * (z .args .i)) (c .before .before .get64 .ensures) (c .before .get642 .ensures) in
     let l = c .share-less-held .ensures in
-    (omega (arith, l, c .before .before .before .before .shared-slice-known2 .given (9 + 19 * z .args .i + 17)), rw e l)
+    (omega (arith, l, c .before .before .before .before .shared-slice-known3 .given (19 * z .args .i + 17)), rw e l)
 
 pub line-reserve-spec : {M : Type 1} → statement M
 line-reserve-spec =
     tie.close
     (tie.spec
     mul-a
-    add-a
     add-share
     shared-slice-read-share
     cast-share

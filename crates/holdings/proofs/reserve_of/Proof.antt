@@ -15,10 +15,10 @@ use Rattle.holdings.proofs.reserve_of.Lts as lts
 use Rattle.holdings.proofs.line_reserve.Reads as line-reserve-reads
 
 abbrev Inv-loop : tie.InvT-loop
-Inv-loop t n m k₀ i₀ k i = (i ≤ m) × (k ≤ 255 * i) × (k ≡ reserve (linesTo t i) (count (heldTo t n)))
+Inv-loop lines slots n m k₀ i₀ k i = (i ≤ m) × (k ≤ 255 * i) × (k ≡ reserve (linesTo lines i) (count (heldTo 0 slots n)))
 
 abbrev μ-loop : tie.MeasureT-loop
-μ-loop t n m k₀ i₀ k i = m - i
+μ-loop lines slots n m k₀ i₀ k i = m - i
 
 loop-holds : tie.Need-loop-holds Inv-loop μ-loop
 unfolding reserve upTo
@@ -43,7 +43,7 @@ loop-again c =
 
 returns : tie.Need-returns Inv-loop μ-loop
 returns c =
-    let e : c .before .loop .i ≡ c .before .before .before .args .m = omega arith in
+    let e : c .before .loop .i ≡ c .before .before .before .before .args .m = omega arith in
     (omega arith, rw (← e) (c .before .loop .inv .2))
 
 pub reserve-of-spec : {M : Type 1} → statement M

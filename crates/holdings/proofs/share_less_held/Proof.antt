@@ -15,19 +15,16 @@ use Rattle.holdings.proofs.share_less_held.Lts as lts
 use Rattle.record.proofs.has_holder.Reads as has-holder-reads
 
 abbrev Inv-loop : tie.InvT-loop
-Inv-loop t n hi lo share k₀ i₀ k i = (i ≤ n) × (1 ≤ k) × (k ≤ share) × (share - k ≡ count (heldTo t i) (heldBy (hi * 2 ^ 64 + lo)))
+Inv-loop slots n hi lo share k₀ i₀ k i = (i ≤ n) × (1 ≤ k) × (k ≤ share) × (share - k ≡ count (heldTo 0 slots i) (heldBy (hi * 2 ^ 64 + lo)))
 
 abbrev μ-loop : tie.MeasureT-loop
-μ-loop t n hi lo share k₀ i₀ k i = n - i
+μ-loop slots n hi lo share k₀ i₀ k i = n - i
 
 loop-holds : tie.Need-loop-holds Inv-loop μ-loop
 loop-holds c = (search needs, search needs, search needs, rw held-none (omega arith))
 
 mul-has-holder : tie.Need-mul-has-holder Inv-loop μ-loop
 mul-has-holder c = search needs
-
-add-has-holder : tie.Need-add-has-holder Inv-loop μ-loop
-add-has-holder c = search needs
 
 has-holder-requires : tie.Need-has-holder-requires Inv-loop μ-loop
 has-holder-requires c κs = search needs
@@ -40,8 +37,8 @@ returns c =
     let l = c .before .before .before .before .loop in
     let a = c .before .before .before .before .before .before .args in
     let p = heldBy (a .hi * 2 ^ 64 + a .lo) in
-    let h = count-hit (a .t .now) (l .i) p (a .share - l .k) (sym (c .before .before .has-holder .ensures) ∙ c .before .if1 .taken) (l .inv .3) in
-    omega (arith, h, count-grows (a .t .now) p (l .i + 1) (a .n) (omega arith))
+    let h = count-hit 0 (a .slots .now) (l .i) p (a .share - l .k) (sym (c .before .before .has-holder .ensures) ∙ c .before .if1 .taken) (l .inv .3) in
+    omega (arith, h, count-grows 0 (a .slots .now) p (l .i + 1) (a .n) (omega arith))
 
 add-i : tie.Need-add-i Inv-loop μ-loop
 add-i c = search needs
@@ -54,8 +51,8 @@ loop-again c =
     let l = c .before .before .before .loop in
     let s = sym (c .before .has-holder .ensures) in
     ⊎-elim
-    (λ w. (omega arith, omega arith, omega arith, omega (arith, count-hit _ (l .i) _ _ (s ∙ w .0 .taken) (l .inv .3))))
-    (λ w. (omega arith, omega arith, omega arith, omega (arith, count-miss _ (l .i) _ _ (s ∙ w .0 .left) (l .inv .3))))
+    (λ w. (omega arith, omega arith, omega arith, omega (arith, count-hit 0 _ (l .i) _ _ (s ∙ w .0 .taken) (l .inv .3))))
+    (λ w. (omega arith, omega arith, omega arith, omega (arith, count-miss 0 _ (l .i) _ _ (s ∙ w .0 .left) (l .inv .3))))
     (c .if1 .came)
 
 returns-2 : tie.Need-returns-2 Inv-loop μ-loop
@@ -71,7 +68,6 @@ share-less-held-spec =
     μ-loop
     loop-holds
     mul-has-holder
-    add-has-holder
     has-holder-requires
     sub-k
     returns

@@ -26,10 +26,10 @@ serve-each-requires : tie.Need-serve-each-requires
 serve-each-requires c κs =
     let z = c .before .before .before .before .before .before .before .before .before .before .before .before in
     let d = now (z .args .d) in
-    let f = z .pre .1 in
+    let f = z .pre .2 in
     let m = measures d _ f in
-    let e = length-matched d _ _ _ m (f .matched) (z .pre .2) in
-    (z .pre .0, m .atMost, questions-of d _ f, f .option (z .pre .2), omega (arith, e, z .pre .3, z))
+    let e = length-matched d _ _ _ m (f .matched) (z .pre .3) in
+    (z .pre .0, z .pre .1, m .atMost, questions-of d _ f, f .option (z .pre .3), omega (arith, e, z .pre .4, z))
 
 same-length : tie.Need-same-length
 same-length c = search needs
@@ -41,12 +41,12 @@ returns : tie.Need-returns
 returns c =
     let z = c .before .before .before .before .before .before .before .before .before .before .before .before .before .before .before .before .before in
     let d = now (z .args .d) in
-    let f = z .pre .1 in
+    let f = z .pre .2 in
     let a = z .args in
     let q = a .q in
     let g = outcomeFrom (senderOf (a .s)) (a .r) d (readTable (a .t .now)) in
     let x = c .before .before .before .before .serve-each .ensures in
-    answers-matched (senderOf (a .s)) (a .r) d (a .t .now) (a .reply .now) _ _ _ (measures d _ f) (f .matched) (z .pre .3) _ _ (z .pre .2) (x .0)
+    answers-matched (senderOf (a .s)) (a .r) d (a .t .now) (a .reply .now) _ _ _ (measures d _ f) (f .matched) (z .pre .4) _ _ (z .pre .3) (x .0)
     (x .1 ∙ ap (splice (q .end + 11) (22 * q .count) (flat optionBytes (upTo (q .count) g))) (c .before .before .before .before .before .before .before .before .before .put-before-options .ensures))
 
 pub answer-spec : {M : Type 1} → statement M

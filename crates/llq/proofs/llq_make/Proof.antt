@@ -19,7 +19,7 @@ use Rattle.llq.proofs.llq_make.Reads as reads
 use Rattle.llq.proofs.llq_make.Lts as lts
 use Rattle.clock.proofs.place.Reads as place-reads
 use Rattle.clock.proofs.valid.Reads as valid-reads
-use Rattle.layout.proofs.slots.Reads as slots-reads
+use Rattle.layout.proofs.of.Reads as of-reads
 use Rattle.layout.proofs.table_length.Reads as table-length-reads
 use Rattle.sound.proofs.roster_sound.Reads as roster-sound-reads
 use Rattle.table.proofs.make_fresh.Reads as make-fresh-reads
@@ -30,10 +30,10 @@ started c = (sym (c .before .before .before .table-length .ensures) ∙ not-fals
 
 -- the roster's test, of the slots that the length gives
 roster-tested : (c : tie.After-roster-sound) → goodRoster (slotsIn (length (c .before .before .before .before .before .before .before .before .args .t .now))) (now (c .before .before .before .before .before .before .before .before .args .roster)) ≡ c .roster-sound .result
-roster-tested c = ap (λ (k : ℕ). goodRoster k (now (c .before .before .before .before .before .before .before .before .args .roster))) (sym (c .before .before .before .before .before .slots .ensures)) ∙ sym (c .roster-sound .ensures)
+roster-tested c = ap (λ (k : ℕ). goodRoster k (now (c .before .before .before .before .before .before .before .before .args .roster))) (sym (c .before .before .before .before .before .of .ensures .2)) ∙ sym (c .roster-sound .ensures)
 
-slots-requires : tie.Need-slots-requires
-slots-requires c κs = search needs
+of-requires : tie.Need-of-requires
+of-requires c κs = search needs
 
 table-length-requires : tie.Need-table-length-requires
 table-length-requires c κs = search needs
@@ -62,7 +62,7 @@ place-requires c κs = started (c .before .before .before) .1
 make-fresh-requires : tie.Need-make-fresh-requires
 make-fresh-requires c κs =
     let right = length-facts _ (started (c .before .before .before .before) .0) .whole in
-    (omega (arith, right, c .before .before .before .before .before .before .before .before .slots .ensures), sym (c .before .before .before .roster-sound .ensures) ∙ not-false _ (c .before .before .if3 .left))
+    (c .before .before .before .before .before .before .before .before .of .ensures, omega (arith, right, c .before .before .before .before .before .before .before .before .of .ensures .2), sym (c .before .before .before .roster-sound .ensures) ∙ not-false _ (c .before .before .if3 .left))
 
 same-length : tie.Need-same-length
 same-length c = search needs
@@ -70,14 +70,14 @@ same-length c = search needs
 returns-4 : tie.Need-returns-4
 returns-4 c =
     let p = started (c .before .before .before .before .before .before .before) in
-    let fresh = fresh-is _ _ _ _ (c .before .before .before .place .ensures .0) (c .before .before .before .before .before .before .before .before .before .before .before .slots .ensures) in
+    let fresh = fresh-is _ _ _ _ (c .before .before .before .place .ensures .0) (c .before .before .before .before .before .before .before .before .before .before .before .of .ensures .2) in
     ladder.make-done _ _ _ (p .0) (p .1) (roster-tested (c .before .before .before .before .before .before) ∙ not-false _ (c .before .before .before .before .before .if3 .left)) (c .before .before .make-fresh .ensures ∙ fresh)
 
 pub llq-make-spec : {M : Type 1} → statement M
 llq-make-spec =
     tie.close
     (tie.spec
-    slots-requires
+    of-requires
     table-length-requires
     returns
     valid-requires

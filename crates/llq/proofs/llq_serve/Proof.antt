@@ -18,12 +18,15 @@ use Rattle.llq.proofs.AnswerLaws.{sound-place, sound-live, answers-mism
 use Rattle.llq.proofs.ReplyLaws.{length-mismatched}
 
 -- the tests that have passed: the table and the reading
-started : (c : tie.Else2) → (soundBytes (c .before .before .before .before .before .before .before .before .args .t .now) ≡ true) × (validReading (c .before .before .before .before .before .before .before .before .args .week) (c .before .before .before .before .before .before .before .before .args .second) ≡ true)
+started : (c : tie.Else2) → (soundBytes (c .before .before .before .before .before .before .before .before .before .args .t .now) ≡ true) × (validReading (c .before .before .before .before .before .before .before .before .before .args .week) (c .before .before .before .before .before .before .before .before .before .args .second) ≡ true)
 started c = (sym (c .before .before .before .sound .ensures) ∙ not-false _ (c .before .before .if1 .left), sym (c .before .valid .ensures) ∙ not-false _ (c .if2 .left))
 
 -- and the datagram
-parsed : (c : tie.Else3) → queryRefusal (now (c .before .before .before .before .before .before .before .before .before .before .args .datagram)) ≡ 0
+parsed : (c : tie.Else3) → queryRefusal (now (c .before .before .before .before .before .before .before .before .before .before .before .args .datagram)) ≡ 0
 parsed c = sym (c .before .parse .ensures .refused) ∙ c .if3 .left
+
+of-requires : tie.Need-of-requires
+of-requires c κs = search needs
 
 sound-requires : tie.Need-sound-requires
 sound-requires c κs = search needs
@@ -66,7 +69,7 @@ returns-3 c =
     rw (c .refuse3 .ensures) (ladder.serve-query _ _ _ _ (p .0) (p .1) (c .before .before .parse .ensures .refused) (omega (arith, c .before .if3 .taken)))
 
 reply-length-requires : tie.Need-reply-length-requires
-reply-length-requires c κs = let h = c .before .before .parse .ensures .query (c .before .if3 .left) in (measures (now (c .before .before .before .before .before .before .before .before .before .before .before .args .datagram)) _ h, h .matched)
+reply-length-requires c κs = let h = c .before .before .parse .ensures .query (c .before .if3 .left) in (measures (now (c .before .before .before .before .before .before .before .before .before .before .before .before .args .datagram)) _ h, h .matched)
 
 refuse-requires-4 : tie.Need-refuse-requires-4
 refuse-requires-4 c κs = search needs
@@ -99,15 +102,15 @@ place-requires c κs = started (c .before .before .before .before .before .befor
 
 move-on-requires : tie.Need-move-on-requires
 move-on-requires c κs =
-    let b = c .before .before .before .before .before .before .before .before .before .before .before .before .before .before .before .before .args .t .now in
-    let e = started (c .before .before .before .before .before .before .before .before) .0 in (sound-formed b e, sound-place b e, c .place .ensures .1, sound-live b e)
+    let b = c .before .before .before .before .before .before .before .before .before .before .before .before .before .before .before .before .before .args .t .now in
+    let e = started (c .before .before .before .before .before .before .before .before) .0 in (sound-formed b e, c .before .before .before .before .before .before .before .before .before .before .before .before .before .of .ensures, sound-place b e, c .place .ensures .1, sound-live b e)
 
 answer-mismatch-requires : tie.Need-answer-mismatch-requires
 answer-mismatch-requires c κs =
     let w = c .before .before .before in
     let r = w .before .before .before .before .before .before .before .before .before .before in
     let h = r .before .parse .ensures .query (r .if3 .left) in
-    let d = now (w .before .before .before .before .before .before .before .before .before .before .before .before .before .before .before .before .before .before .before .before .args .datagram) in
+    let d = now (w .before .before .before .before .before .before .before .before .before .before .before .before .before .before .before .before .before .before .before .before .before .args .datagram) in
     let len = w .before .before .before .before .before .before .before .before .reply-length .ensures in
     let m = measures d _ h in
     let e = length-mismatched d _ _ _ m (h .matched) (not-true _ (c .before .before .if6 .taken)) in
@@ -127,7 +130,7 @@ returns-6 c =
     let w = c .before .before .before .before .before .before .before in
     let r = w .before .before .before .before .before .before .before .before .before .before in
     let h = r .before .parse .ensures .query (r .if3 .left) in
-    let d = now (w .before .before .before .before .before .before .before .before .before .before .before .before .before .before .before .before .before .before .before .before .args .datagram) in
+    let d = now (w .before .before .before .before .before .before .before .before .before .before .before .before .before .before .before .before .before .before .before .before .before .args .datagram) in
     let len = w .before .before .before .before .before .before .before .before .reply-length .ensures in
     let p = started (r .before .before) in
     let room = ladder.has-room _ _ _ len (w .before .before .before .before .before .before .before .if4 .left) (w .before .before .before .before .before .before .if5 .left) in
@@ -141,9 +144,9 @@ answer-requires c κs =
     let w = c .before .before .before in
     let r = w .before .before .before .before .before .before .before .before .before .before in
     let h = r .before .parse .ensures .query (r .if3 .left) in
-    let d = now (w .before .before .before .before .before .before .before .before .before .before .before .before .before .before .before .before .before .before .before .before .args .datagram) in
+    let d = now (w .before .before .before .before .before .before .before .before .before .before .before .before .before .before .before .before .before .before .before .before .before .args .datagram) in
     let len = w .before .before .before .before .before .before .before .before .reply-length .ensures in
-    (formed-written (w .before .before .before .move-on .ensures .0), h, not-false _ (c .before .before .if6 .left), omega (arith, len, w .before .before .before .before .before .before .before .if4 .left))
+    (formed-written (w .before .before .before .move-on .ensures .0), rw (w .before .before .before .move-on .kept .0) (c .before .before .before .before .before .before .before .before .before .before .before .before .before .before .before .before .before .before .before .before .of .ensures), h, not-false _ (c .before .before .if6 .left), omega (arith, len, w .before .before .before .before .before .before .before .if4 .left))
 
 answered-requires-2 : tie.Need-answered-requires-2
 answered-requires-2 c κs = search needs
@@ -168,6 +171,7 @@ pub llq-serve-spec : {M : Type 1} → statement M
 llq-serve-spec =
     tie.close
     (tie.spec
+    of-requires
     sound-requires
     refuse-requires
     same-length

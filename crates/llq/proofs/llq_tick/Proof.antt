@@ -1,5 +1,5 @@
 -- `llq::llq_tick` meets its contract. Assumes nothing.
-use mathlib.Core.Path.{_≡_, refl, sym, ap, _∙_}
+use mathlib.Core.Path.{_≡_, sym, ap, _∙_}
 use native.Mathlib.Omega.{arith}
 use denote.Ref.{now}
 use mathlib.Core.Bool.{true}
@@ -20,12 +20,16 @@ use Rattle.llq.proofs.llq_tick.Reads as reads
 use Rattle.llq.proofs.llq_tick.Lts as lts
 use Rattle.clock.proofs.place.Reads as place-reads
 use Rattle.clock.proofs.valid.Reads as valid-reads
+use Rattle.layout.proofs.of.Reads as of-reads
 use Rattle.sound.proofs.sound.Reads as sound-reads
 use Rattle.table.proofs.move_on.Reads as move-on-reads
 
 -- the tests that have passed: the table and the reading
-started : (c : tie.Else2) → (soundBytes (c .before .before .before .before .before .before .args .t .now) ≡ true) × (validReading (c .before .before .before .before .before .before .args .week) (c .before .before .before .before .before .before .args .second) ≡ true)
+started : (c : tie.Else2) → (soundBytes (c .before .before .before .before .before .before .before .args .t .now) ≡ true) × (validReading (c .before .before .before .before .before .before .before .args .week) (c .before .before .before .before .before .before .before .args .second) ≡ true)
 started c = (sym (c .before .before .before .sound .ensures) ∙ not-false _ (c .before .before .if1 .left), sym (c .before .valid .ensures) ∙ not-false _ (c .if2 .left))
+
+of-requires : tie.Need-of-requires
+of-requires c κs = search needs
 
 sound-requires : tie.Need-sound-requires
 sound-requires c κs = search needs
@@ -52,12 +56,12 @@ place-requires c κs = started (c .before) .1
 
 move-on-requires : tie.Need-move-on-requires
 move-on-requires c κs =
-    let b = c .before .before .before .before .before .before .before .before .args .t .now in
-    let e = started (c .before .before) .0 in (sound-formed b e, sound-place b e, c .place .ensures .1, sound-live b e)
+    let b = c .before .before .before .before .before .before .before .before .before .args .t .now in
+    let e = started (c .before .before) .0 in (sound-formed b e, c .before .before .before .before .before .before .before .of .ensures, sound-place b e, c .place .ensures .1, sound-live b e)
 
-cast-t11 : tie.Need-cast-t11
-cast-t11 c =
-    let few = freed-few (c .before .before .before .before .before .before .before .before .before .before .before .args .t .now) (c .before .before .before .place .result) (started (c .before .before .before .before .before) .0) in omega (arith, few, c .before .before .move-on .ensures .1)
+cast-t13 : tie.Need-cast-t13
+cast-t13 c =
+    let few = freed-few (c .before .before .before .before .before .before .before .before .before .before .before .before .args .t .now) (c .before .before .before .place .result) (started (c .before .before .before .before .before) .0) in omega (arith, few, c .before .before .move-on .ensures .1)
 
 same-length-3 : tie.Need-same-length-3
 same-length-3 c = search needs
@@ -65,7 +69,7 @@ same-length-3 c = search needs
 returns-3 : tie.Need-returns-3
 returns-3 c =
     let p = started (c .before .before .before .before .before) in
-    let t = readTable (c .before .before .before .before .before .before .before .before .before .before .before .args .t .now) in
+    let t = readTable (c .before .before .before .before .before .before .before .before .before .before .before .before .args .t .now) in
     let place = c .before .before .before .place .ensures .0 in
     let m = c .before .before .move-on .ensures in
     ladder.tick-done _ _ _ _ (p .0) (p .1) (m .0 .bytes ∙ ap (λ (k : ℕ). tableBytes (movedOn t k)) place) (m .1 ∙ ap (freedBy t) place)
@@ -74,6 +78,7 @@ pub llq-tick-spec : {M : Type 1} → statement M
 llq-tick-spec =
     tie.close
     (tie.spec
+    of-requires
     sound-requires
     same-length
     returns
@@ -82,6 +87,6 @@ llq-tick-spec =
     returns-2
     place-requires
     move-on-requires
-    cast-t11
+    cast-t13
     same-length-3
     returns-3)

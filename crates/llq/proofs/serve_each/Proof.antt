@@ -19,12 +19,12 @@ use Rattle.llq.proofs.serve_each.Statement.{statement}
 use Rattle.llq.proofs.serve_each.Tie as tie
 
 abbrev Inv-loop : tie.InvT-loop
-Inv-loop t₀ reply₀ d s r n end questions options at i₀ t reply i =
+Inv-loop t₀ l reply₀ d s r n end questions options at i₀ t reply i =
     (i ≤ n) × (length reply ≡ length reply₀) × (length t ≡ length t₀) × Written t (tableFrom (senderOf s) r d (readTable t₀) i)
     × (reply ≡ splice at (22 * i) (flat optionBytes (upTo i (outcomeFrom (senderOf s) r d (readTable t₀)))) reply₀)
 
 abbrev μ-loop : tie.MeasureT-loop
-μ-loop t₀ reply₀ d s r n end questions options at i₀ t reply i = n - i
+μ-loop t₀ l reply₀ d s r n end questions options at i₀ t reply i = n - i
 
 add-at : tie.Need-add-at Inv-loop μ-loop
 add-at c = search needs
@@ -63,7 +63,7 @@ serve-one-requires : tie.Need-serve-one-requires Inv-loop μ-loop
 serve-one-requires c κs =
     let l = c .before .before .before .before .before .loop in
     let z = c .before .before .before .before .before .before .before .before .before in
-    let q = z .pre .2 (l .i) _ (omega arith) in (formed-written (l .inv .3), q .1, q .2, omega (arith, z))
+    let q = z .pre .3 (l .i) _ (omega arith) in (formed-written (l .inv .3), rw (l .inv .2) (z .pre .1), q .1, q .2, omega (arith, z))
 
 add-i : tie.Need-add-i Inv-loop μ-loop
 add-i c = search needs
@@ -79,8 +79,8 @@ loop-again c =
     let s = senderOf (a .s) in
     let d = now (a .d) in
     let x = c .before .before .before .before .serve-one .ensures in
-    let f = z .pre .2 (l .i) _ (omega arith) .0 in
-    let g = z .pre .3 (l .i) _ (omega arith) in (
+    let f = z .pre .3 (l .i) _ (omega arith) .0 in
+    let g = z .pre .4 (l .i) _ (omega arith) in (
       omega arith,
       search needs,
       search needs,

@@ -1,9 +1,11 @@
 -- `options::serve_setup` meets its contract: found, full or granted. Assumes nothing.
-use Prim.Native.Nat.{_-_}
 use native.Mathlib.Omega.{arith}
 use mathlib.Core.Path.{refl, sym, _∙_}
+use lib.ListN.{drop}
 use Rattle.model.specs.Numbers.{Bytes}
+use Rattle.model.specs.Table.{base}
 use Rattle.wire.specs.Records.{questionOf}
+use Rattle.layout.proofs.PartLaws.{tail-is}
 use Rattle.entries.proofs.Laws.{found-is, nothing-is}
 use Rattle.options.proofs.OptionLaws as law
 use borrow.Author.Needs.{needs}
@@ -13,15 +15,28 @@ use Rattle.options.proofs.serve_setup.Reads as reads
 use Rattle.options.proofs.serve_setup.Lts as lts
 use Rattle.entries.proofs.find_asked.Reads as find-asked-reads
 use Rattle.entries.proofs.is_full.Reads as is-full-reads
+use Rattle.octets.proofs.get32.Reads as get32-reads
 use Rattle.options.proofs.grant.Reads as grant-reads
 use Rattle.options.proofs.life_left.Reads as life-left-reads
 use Rattle.options.proofs.served.Reads as served-reads
+
+sub-find-asked : tie.Need-sub-find-asked
+sub-find-asked c = search needs
+
+part-find-asked-start : tie.Need-part-find-asked-start
+part-find-asked-start c = search needs
+
+part-find-asked-end : tie.Need-part-find-asked-end
+part-find-asked-end c = search needs
 
 find-asked-requires : tie.Need-find-asked-requires
 find-asked-requires c κs = search needs
 
 enum-known-e : tie.Need-enum-known-e
 enum-known-e c = search needs
+
+get32-requires : tie.Need-get32-requires
+get32-requires c κs = search needs
 
 life-left-requires : tie.Need-life-left-requires
 life-left-requires c κs = search needs
@@ -31,6 +46,24 @@ served-requires c κs = search needs
 
 enum-told : tie.Need-enum-told
 enum-told c = search needs
+
+sub-is-full : tie.Need-sub-is-full
+sub-is-full c = search needs
+
+part-is-full-start : tie.Need-part-is-full-start
+part-is-full-start c = search needs
+
+part-is-full-end : tie.Need-part-is-full-end
+part-is-full-end c = search needs
+
+sub-is-full-2 : tie.Need-sub-is-full-2
+sub-is-full-2 c = search needs
+
+part-is-full-start-2 : tie.Need-part-is-full-start-2
+part-is-full-start-2 c = search needs
+
+part-is-full-end-2 : tie.Need-part-is-full-end-2
+part-is-full-end-2 c = search needs
 
 is-full-requires : tie.Need-is-full-requires
 is-full-requires c κs = search needs
@@ -43,11 +76,13 @@ same-length c = search needs
 
 returns : tie.Need-returns
 returns c =
-    let z = c .before .before .before .before .before .before .before .before .before .before in
+    let z = c .before .before .before .before .before .before .before .before .before .before .before .before .before in
     let a = z .args in
-    let bytes : Bytes (a .t .now) = λ j. omega (arith, c .before .before .before .before .before .before .before .before .before .slice-known .given j) in
-    let f = nothing-is (a .t .now) (a .n) _ (sym (c .before .before .before .before .before .before .find-asked .ensures) ∙ c .before .before .before .before .enum-told .given .1) in
-    law.setup-full (a .t .now) bytes (z .pre .0) (a .n) (z .pre .1) (a .s) (a .r) (questionOf (a .d .now) (a .q)) (a .o) refl f (sym (c .before .before .is-full .ensures) ∙ c .before .if1 .taken) _ (c .served2 .ensures)
+    let bytes : Bytes (a .t .now) = λ j. omega (arith, c .before .before .before .before .before .before .before .before .before .before .before .before .slice-known .given j) in
+    let w = rw (tail-is (a .t .now) (z .pre .1 .1)) at (c .before .before .before .before .before .before .before .before .find-asked .ensures) in
+    let f = nothing-is (drop base (a .t .now)) (a .l .n) _ (sym w ∙ c .before .before .before .before .before .before .enum-told .given .1) in
+    let v = rw (tail-is (a .t .now) (z .pre .1 .0), tail-is (a .t .now) (z .pre .1 .1)) at (c .before .before .is-full .ensures) in
+    law.setup-full (a .t .now) bytes (z .pre .0) (a .l .n) (z .pre .2) (a .s) (a .r) (questionOf (a .d .now) (a .q)) (a .o) refl f (sym v ∙ c .before .if1 .taken) _ (c .served2 .ensures)
 
 grant-requires : tie.Need-grant-requires
 grant-requires c κs = search needs
@@ -57,32 +92,45 @@ same-length-2 c = search needs
 
 returns-2 : tie.Need-returns-2
 returns-2 c =
-    let z = c .before .before .before .before .before .before .before .before .before .before .before in
+    let z = c .before .before .before .before .before .before .before .before .before .before .before .before .before in
     let a = z .args in
-    let bytes : Bytes (a .t .now) = λ j. omega (arith, c .before .before .before .before .before .before .before .before .before .before .slice-known .given j) in
-    let f = found-is (a .t .now) (a .n) _ _ _ (sym (c .before .before .before .before .before .before .before .find-asked .ensures) ∙ c .before .before .before .before .before .e .given .1) in
-    law.setup-found (a .t .now) bytes (z .pre .0) (a .n) (z .pre .1) (a .s) (a .r) (questionOf (a .d .now) (a .q)) (a .o) (f .0) (f .1) _ (f .2) _ (c .before .life-left .ensures) _ (c .served .ensures)
+    let bytes : Bytes (a .t .now) = λ j. omega (arith, c .before .before .before .before .before .before .before .before .before .before .before .before .slice-known .given j) in
+    let w = rw (tail-is (a .t .now) (z .pre .1 .1)) at (c .before .before .before .before .before .before .before .before .find-asked .ensures) in
+    let f = found-is (drop base (a .t .now)) (a .l .n) _ _ _ (sym w ∙ c .before .before .before .before .before .before .e .given .1) in
+    law.setup-found (a .t .now) bytes (z .pre .0) (a .l .n) (z .pre .2) (a .s) (a .r) (questionOf (a .d .now) (a .q)) (a .o) (f .0) (f .1) _ (f .2) (c .before .before .get32 .ensures) _ (c .before .life-left .ensures) _ (c .served .ensures)
 
 same-length-3 : tie.Need-same-length-3
 same-length-3 c = search needs
 
 returns-3 : tie.Need-returns-3
 returns-3 c =
-    let z = c .before .before .before .before .before .before .before .before .before .before .before .before .before in
+    let z = c .before .before .before .before .before .before .before .before .before .before .before .before .before .before .before .before in
     let a = z .args in
-    let bytes : Bytes (a .t .now) = λ j. omega (arith, c .before .before .before .before .before .before .before .before .before .before .before .before .slice-known .given j) in
-    let f = nothing-is (a .t .now) (a .n) _ (sym (c .before .before .before .before .before .before .before .before .before .find-asked .ensures) ∙ c .before .before .before .before .before .before .before .enum-told .given .1) in
-    law.setup-grant (a .t .now) bytes (z .pre .0) (a .n) (z .pre .1) (a .s) (a .r) (questionOf (a .d .now) (a .q)) (a .o) refl f (sym (c .before .before .before .before .before .is-full .ensures) ∙ c .before .before .before .before .if1 .left) _ _ (c .before .before .grant .ensures)
+    let bytes : Bytes (a .t .now) = λ j. omega (arith, c .before .before .before .before .before .before .before .before .before .before .before .before .before .before .before .slice-known .given j) in
+    let w = rw (tail-is (a .t .now) (z .pre .1 .1)) at (c .before .before .before .before .before .before .before .before .before .before .before .find-asked .ensures) in
+    let f = nothing-is (drop base (a .t .now)) (a .l .n) _ (sym w ∙ c .before .before .before .before .before .before .before .before .before .enum-told .given .1) in
+    let v = rw (tail-is (a .t .now) (z .pre .1 .0), tail-is (a .t .now) (z .pre .1 .1)) at (c .before .before .before .before .before .is-full .ensures) in
+    law.setup-grant (a .t .now) bytes (z .pre .0) (a .l .n) (z .pre .2) (a .s) (a .r) (questionOf (a .d .now) (a .q)) (a .o) refl f (sym v ∙ c .before .before .before .before .if1 .left) _ _ (c .before .before .grant .ensures)
 
 pub serve-setup-spec : {M : Type 1} → statement M
 serve-setup-spec =
     tie.close
     (tie.spec
+    sub-find-asked
+    part-find-asked-start
+    part-find-asked-end
     find-asked-requires
     enum-known-e
+    get32-requires
     life-left-requires
     served-requires
     enum-told
+    sub-is-full
+    part-is-full-start
+    part-is-full-end
+    sub-is-full-2
+    part-is-full-start-2
+    part-is-full-end-2
     is-full-requires
     served-requires-2
     same-length

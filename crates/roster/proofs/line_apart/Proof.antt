@@ -9,7 +9,7 @@ use Rattle.model.specs.Lists.{every, upTo}
 use Rattle.model.specs.Numbers.{bigEndian}
 use Rattle.model.specs.Table.{readLine}
 use Rattle.model.specs.Sound.{sameAddress}
-use Rattle.layout.specs.Shape.{linesFrom}
+use Rattle.layout.specs.Shape.{linesTo}
 use Rattle.layout.proofs.LineLaws.{lines-yes, lines-no}
 use Rattle.layout.proofs.AddressLaws.{address-is}
 use Rattle.roster.proofs.line_apart.Statement.{statement}
@@ -20,16 +20,13 @@ use Rattle.octets.proofs.get64.Reads as get64-reads
 use Rattle.record.proofs.has_address.Reads as has-address-reads
 
 abbrev Inv-loop : tie.InvT-loop
-Inv-loop t base i a hi lo j₀ j = (j ≤ i) × (every (λ l. not (sameAddress l (readLine t (base + 19 * i)))) (linesFrom t base j) ≡ true)
+Inv-loop t i a hi lo j₀ j = (j ≤ i) × (every (λ l. not (sameAddress l (readLine t (19 * i)))) (linesTo t j) ≡ true)
 
 abbrev μ-loop : tie.MeasureT-loop
-μ-loop t base i a hi lo j₀ j = i - j
+μ-loop t i a hi lo j₀ j = i - j
 
 mul-a : tie.Need-mul-a Inv-loop μ-loop
 mul-a c = search needs
-
-add-a : tie.Need-add-a Inv-loop μ-loop
-add-a c = search needs
 
 add-get64 : tie.Need-add-get64 Inv-loop μ-loop
 add-get64 c = search needs
@@ -53,9 +50,6 @@ mul-has-address c = search needs
 add-has-address : tie.Need-add-has-address Inv-loop μ-loop
 add-has-address c = search needs
 
-add-has-address-2 : tie.Need-add-has-address-2 Inv-loop μ-loop
-add-has-address-2 c = search needs
-
 has-address-requires : tie.Need-has-address-requires Inv-loop μ-loop
 has-address-requires c κs = search needs
 
@@ -64,8 +58,8 @@ unfolding readLine
 returns c =
     let l = c .before .before .before .loop in
     let a = c .before .before .before .before .before .before .before .args in
-    let e = address-is (a .t .now) (a .base + 19 * a .i) (c .before .before .before .before .before .get64 .ensures) (c .before .before .before .before .get642 .ensures) in
-    let s = ap (eqb (bigEndian (a .t .now) (a .base + 19 * l .j + 1) 16)) e ∙ sym (c .before .has-address .ensures) ∙ c .if1 .taken in
+    let e = address-is (a .lines .now) (19 * a .i) (c .before .before .before .before .before .get64 .ensures) (c .before .before .before .before .get642 .ensures) in
+    let s = ap (eqb (bigEndian (a .lines .now) (19 * l .j + 1) 16)) e ∙ sym (c .before .has-address .ensures) ∙ c .if1 .taken in
     sym (lines-no _ _ (a .i) (l .j) (omega arith) (ap not s))
 
 add-j : tie.Need-add-j Inv-loop μ-loop
@@ -79,8 +73,8 @@ unfolding readLine
 loop-again c =
     let l = c .before .before .before .loop in
     let a = c .before .before .before .before .before .before .before .args in
-    let e = address-is (a .t .now) (a .base + 19 * a .i) (c .before .before .before .before .before .get64 .ensures) (c .before .before .before .before .get642 .ensures) in
-    let s = ap (eqb (bigEndian (a .t .now) (a .base + 19 * l .j + 1) 16)) e ∙ sym (c .before .has-address .ensures) ∙ c .if1 .left in
+    let e = address-is (a .lines .now) (19 * a .i) (c .before .before .before .before .before .get64 .ensures) (c .before .before .before .before .get642 .ensures) in
+    let s = ap (eqb (bigEndian (a .lines .now) (19 * l .j + 1) 16)) e ∙ sym (c .before .has-address .ensures) ∙ c .if1 .left in
     (omega arith, lines-yes _ _ (l .j) (ap not s) (l .inv .1))
 
 returns-2 : tie.Need-returns-2 Inv-loop μ-loop
@@ -95,7 +89,6 @@ line-apart-spec =
     Inv-loop
     μ-loop
     mul-a
-    add-a
     add-get64
     get64-requires
     add-get64-2
@@ -103,7 +96,6 @@ line-apart-spec =
     loop-holds
     mul-has-address
     add-has-address
-    add-has-address-2
     has-address-requires
     returns
     add-j

@@ -7,7 +7,7 @@ use borrow.Author.Needs.{needs}
 use borrow.Author.Tests.{not-true, not-false}
 use Rattle.model.specs.Lists.{noTwo, upTo}
 use Rattle.model.specs.Sound.{sameAddress}
-use Rattle.layout.specs.Shape.{linesFrom}
+use Rattle.layout.specs.Shape.{linesTo}
 use Rattle.layout.proofs.LineLaws.{pairs-yes, pairs-no}
 use Rattle.roster.proofs.lines_apart.Statement.{statement}
 use Rattle.roster.proofs.lines_apart.Tie as tie
@@ -16,10 +16,10 @@ use Rattle.roster.proofs.lines_apart.Lts as lts
 use Rattle.roster.proofs.line_apart.Reads as line-apart-reads
 
 abbrev Inv-loop : tie.InvT-loop
-Inv-loop t base m i₀ i = (i ≤ m) × (noTwo sameAddress (linesFrom t base i) ≡ true)
+Inv-loop t m i₀ i = (i ≤ m) × (noTwo sameAddress (linesTo t i) ≡ true)
 
 abbrev μ-loop : tie.MeasureT-loop
-μ-loop t base m i₀ i = m - i
+μ-loop t m i₀ i = m - i
 
 loop-holds : tie.Need-loop-holds Inv-loop μ-loop
 unfolding noTwo upTo

@@ -7,7 +7,7 @@ use borrow.Author.Needs.{needs}
 use borrow.Author.Tests.{not-true, not-false}
 use Rattle.model.specs.Lists.{every, upTo}
 use Rattle.model.specs.Sound.{validLine}
-use Rattle.layout.specs.Shape.{linesFrom}
+use Rattle.layout.specs.Shape.{linesTo}
 use Rattle.layout.proofs.LineLaws.{lines-yes, lines-no}
 use Rattle.roster.proofs.lines_valid.Statement.{statement}
 use Rattle.roster.proofs.lines_valid.Tie as tie
@@ -16,10 +16,10 @@ use Rattle.roster.proofs.lines_valid.Lts as lts
 use Rattle.record.proofs.valid_line.Reads as valid-line-reads
 
 abbrev Inv-loop : tie.InvT-loop
-Inv-loop t base m i₀ i = (i ≤ m) × (every validLine (linesFrom t base i) ≡ true)
+Inv-loop t m i₀ i = (i ≤ m) × (every validLine (linesTo t i) ≡ true)
 
 abbrev μ-loop : tie.MeasureT-loop
-μ-loop t base m i₀ i = m - i
+μ-loop t m i₀ i = m - i
 
 loop-holds : tie.Need-loop-holds Inv-loop μ-loop
 unfolding every upTo
@@ -27,9 +27,6 @@ loop-holds c = (search needs, refl)
 
 mul-valid-line : tie.Need-mul-valid-line Inv-loop μ-loop
 mul-valid-line c = search needs
-
-add-valid-line : tie.Need-add-valid-line Inv-loop μ-loop
-add-valid-line c = search needs
 
 valid-line-requires : tie.Need-valid-line-requires Inv-loop μ-loop
 valid-line-requires c κs = search needs
@@ -64,7 +61,6 @@ lines-valid-spec =
     μ-loop
     loop-holds
     mul-valid-line
-    add-valid-line
     valid-line-requires
     returns
     add-i

@@ -29,9 +29,6 @@ loop-holds c = (search needs, refl)
 mul-a : tie.Need-mul-a Inv-loop μ-loop
 mul-a c = search needs
 
-add-a : tie.Need-add-a Inv-loop μ-loop
-add-a c = search needs
-
 add-has-address : tie.Need-add-has-address Inv-loop μ-loop
 add-has-address c = search needs
 
@@ -79,7 +76,6 @@ share-of-spec =
     μ-loop
     loop-holds
     mul-a
-    add-a
     add-has-address
     has-address-requires
     add-wide

@@ -6,7 +6,7 @@ use borrow.Author.Needs.{needs}
 use Rattle.model.specs.Lists.{upTo}
 use Rattle.model.specs.Table.{readLine}
 use Rattle.model.specs.Rules.{shares}
-use Rattle.layout.specs.Shape.{linesFrom}
+use Rattle.layout.specs.Shape.{linesTo}
 use Rattle.layout.proofs.LineLaws.{shares-next}
 use Rattle.roster.proofs.share_sum.Statement.{statement}
 use Rattle.roster.proofs.share_sum.Tie as tie
@@ -15,10 +15,10 @@ use Rattle.roster.proofs.share_sum.Lts as lts
 use Rattle.roster.proofs.wide.Reads as wide-reads
 
 abbrev Inv-loop : tie.InvT-loop
-Inv-loop t base m s₀ i₀ s i = (i ≤ m) × (s ≤ 255 * i) × (s ≡ shares (linesFrom t base i))
+Inv-loop t m s₀ i₀ s i = (i ≤ m) × (s ≤ 255 * i) × (s ≡ shares (linesTo t i))
 
 abbrev μ-loop : tie.MeasureT-loop
-μ-loop t base m s₀ i₀ s i = m - i
+μ-loop t m s₀ i₀ s i = m - i
 
 loop-holds : tie.Need-loop-holds Inv-loop μ-loop
 unfolding shares upTo
@@ -30,9 +30,6 @@ mul-wide c = search needs
 add-wide : tie.Need-add-wide Inv-loop μ-loop
 add-wide c = search needs
 
-add-wide-2 : tie.Need-add-wide-2 Inv-loop μ-loop
-add-wide-2 c = search needs
-
 shared-slice-read-wide : tie.Need-shared-slice-read-wide Inv-loop μ-loop
 shared-slice-read-wide c = search needs
 
@@ -40,7 +37,7 @@ wide-requires : tie.Need-wide-requires Inv-loop μ-loop
 wide-requires c κs = search needs
 
 add-s : tie.Need-add-s Inv-loop μ-loop
-add-s c = omega (arith, c .before .shared-slice-known2 .given (c .before .before .before .before .before .args .base + 19 * c .before .before .before .loop .i + 17))
+add-s c = omega (arith, c .before .shared-slice-known2 .given (19 * c .before .before .before .loop .i + 17))
 
 add-i : tie.Need-add-i Inv-loop μ-loop
 add-i c = search needs
@@ -52,7 +49,7 @@ loop-again : tie.Need-loop-again Inv-loop μ-loop
 unfolding readLine
 loop-again c =
     let l = c .before .before .before .loop in
-    (omega arith, omega (arith, c .before .shared-slice-known2 .given (c .before .before .before .before .before .args .base + 19 * l .i + 17)), rw (shares-next _ (l .i)) (omega arith))
+    (omega arith, omega (arith, c .before .shared-slice-known2 .given (19 * l .i + 17)), rw (shares-next _ (l .i)) (omega arith))
 
 returns : tie.Need-returns Inv-loop μ-loop
 returns c =
@@ -68,7 +65,6 @@ share-sum-spec =
     loop-holds
     mul-wide
     add-wide
-    add-wide-2
     shared-slice-read-wide
     wide-requires
     add-s

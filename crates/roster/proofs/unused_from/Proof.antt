@@ -5,7 +5,6 @@ use mathlib.Core.Bool.{true}
 use native.Mathlib.Omega.{arith}
 use borrow.Author.Needs.{needs}
 use borrow.Author.Tests.{not-true, not-false}
-use Rattle.model.specs.Table.{lineAt}
 use Rattle.layout.specs.Shape.{all, unusedShape, unusedFrom}
 use Rattle.layout.proofs.ShapeLaws.{all-none, all-more, all-no}
 use Rattle.roster.proofs.unused_from.Statement.{statement}
@@ -15,7 +14,7 @@ use Rattle.roster.proofs.unused_from.Lts as lts
 use Rattle.record.proofs.unused_shape.Reads as unused-shape-reads
 
 abbrev Inv-loop : tie.InvT-loop
-Inv-loop t m n a i₀ i = (i ≤ 16 - m) × (all (λ j. unusedShape t (lineAt m + 19 * j)) i ≡ true)
+Inv-loop t m n a i₀ i = (i ≤ 16 - m) × (all (λ j. unusedShape t (19 * m + 19 * j)) i ≡ true)
 
 abbrev μ-loop : tie.MeasureT-loop
 μ-loop t m n a i₀ i = 16 - m - i
@@ -25,9 +24,6 @@ sub-n c = search needs
 
 mul-a : tie.Need-mul-a Inv-loop μ-loop
 mul-a c = search needs
-
-add-a : tie.Need-add-a Inv-loop μ-loop
-add-a c = search needs
 
 loop-holds : tie.Need-loop-holds Inv-loop μ-loop
 loop-holds c = (search needs, all-none _)
@@ -73,7 +69,6 @@ unused-from-spec =
     μ-loop
     sub-n
     mul-a
-    add-a
     loop-holds
     mul-unused-shape
     add-unused-shape

@@ -17,10 +17,10 @@ use Rattle.record.proofs.has_address.Reads as has-address-reads
 use Rattle.sound.proofs.beyond_share.Reads as beyond-share-reads
 
 abbrev Inv-loop : tie.InvT-loop
-Inv-loop t m k hi lo i₀ i = (i ≤ m) × (unlisted (linesTo t i) (hi * 2 ^ 64 + lo) ≡ true)
+Inv-loop lines m k hi lo i₀ i = (i ≤ m) × (unlisted (linesTo lines i) (hi * 2 ^ 64 + lo) ≡ true)
 
 abbrev μ-loop : tie.MeasureT-loop
-μ-loop t m k hi lo i₀ i = m - i
+μ-loop lines m k hi lo i₀ i = m - i
 
 loop-holds : tie.Need-loop-holds Inv-loop μ-loop
 unfolding every upTo
@@ -28,9 +28,6 @@ loop-holds c = (search needs, refl)
 
 mul-a : tie.Need-mul-a Inv-loop μ-loop
 mul-a c = search needs
-
-add-a : tie.Need-add-a Inv-loop μ-loop
-add-a c = search needs
 
 add-has-address : tie.Need-add-has-address Inv-loop μ-loop
 add-has-address c = search needs
@@ -90,7 +87,6 @@ address-beyond-share-spec =
     μ-loop
     loop-holds
     mul-a
-    add-a
     add-has-address
     has-address-requires
     add-beyond-share

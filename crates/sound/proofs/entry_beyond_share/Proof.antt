@@ -1,13 +1,13 @@
 -- `sound::entry_beyond_share` meets its contract: the entries passed have another number and ask another question, and those of its address are counted. Assumes nothing.
 use Prim.Native.Nat.{_+_, _-_, _*_, _^_, _≤_}
-use mathlib.Core.Path.{_≡_, refl, sym, _∙_}
+use mathlib.Core.Path.{_≡_, sym, _∙_}
 use mathlib.Core.Bool.{true, not, and-false}
 use mathlib.Core.Logic.{⊎-elim}
 use native.Mathlib.Omega.{arith}
 use borrow.Author.Needs.{needs}
 use lib.ListN.{getD}
 use Rattle.model.specs.Lists.{count, every}
-use Rattle.model.specs.Table.{slotAt, readEntry}
+use Rattle.model.specs.Table.{readEntry}
 use Rattle.model.specs.Rules.{numbered, heldBy}
 use Rattle.model.specs.Sound.{sameQuestion}
 use Rattle.layout.specs.Shape.{inUse}
@@ -27,12 +27,12 @@ use Rattle.record.proofs.same_asked.Reads as same-asked-reads
 use Rattle.sound.proofs.address_beyond_share.Reads as address-beyond-share-reads
 
 abbrev Inv-loop : tie.InvT-loop
-Inv-loop t i c m number hi lo k₀ j₀ k j =
-    (j ≤ i) × (k ≤ j) × (every (λ h. not (numbered (number .0) h)) (heldTo t j) ≡ true)
-    × (every (λ h. not (sameQuestion h (holdingAt t c))) (heldTo t j) ≡ true) × (k ≡ count (heldTo t j) (heldBy (hi * 2 ^ 64 + lo)))
+Inv-loop lines slots i c m number hi lo k₀ j₀ k j =
+    (j ≤ i) × (k ≤ j) × (every (λ h. not (numbered (number .0) h)) (heldTo 0 slots j) ≡ true)
+    × (every (λ h. not (sameQuestion h (holdingAt 0 slots c))) (heldTo 0 slots j) ≡ true) × (k ≡ count (heldTo 0 slots j) (heldBy (hi * 2 ^ 64 + lo)))
 
 abbrev μ-loop : tie.MeasureT-loop
-μ-loop t i c m number hi lo k₀ j₀ k j = i - j
+μ-loop lines slots i c m number hi lo k₀ j₀ k j = i - j
 
 number-at-requires : tie.Need-number-at-requires Inv-loop μ-loop
 number-at-requires c κs = search needs
@@ -56,9 +56,6 @@ loop-holds c = (search needs, search needs, rw held-none, rw held-none, rw held-
 mul-a : tie.Need-mul-a Inv-loop μ-loop
 mul-a c = search needs
 
-add-a : tie.Need-add-a Inv-loop μ-loop
-add-a c = search needs
-
 has-number-requires : tie.Need-has-number-requires Inv-loop μ-loop
 has-number-requires c κs = search needs
 
@@ -66,10 +63,10 @@ returns : tie.Need-returns Inv-loop μ-loop
 unfolding holdingAt readEntry
 returns c =
     let l = c .before .before .before .loop in
-    let a = c .before .before .before .before .before .before .before .before .args in
+    let a = c .before .before .before .before .before .before .before .before .before .args in
     let x = c .before .before .before .before .before .before .number-at in
-    let s = same-number (inUse (getD (a .t .now) (slotAt (l .j)) 0)) (holdingAt (a .t .now) (slotAt (l .j))) (x .result .0) (sym (c .before .has-number .ensures) ∙ c .if1 .taken) in
-    rw (← x .ensures, every-no (a .t .now) (a .i) (l .j) (omega arith) (λ h. not (numbered (x .result .0) h)) s)
+    let s = same-number (inUse (getD (a .slots .now) (320 * l .j) 0)) (holdingAt 0 (a .slots .now) (320 * l .j)) (x .result .0) (sym (c .before .has-number .ensures) ∙ c .if1 .taken) in
+    rw (← x .ensures, every-no 0 (a .slots .now) (a .i) (l .j) (omega arith) (λ h. not (numbered (x .result .0) h)) s)
 
 has-holder-requires : tie.Need-has-holder-requires Inv-loop μ-loop
 has-holder-requires c κs = search needs
@@ -81,13 +78,13 @@ returns-2 : tie.Need-returns-2 Inv-loop μ-loop
 unfolding holdingAt readEntry
 returns-2 c =
     let l = c .before .before .before .before .before .before .before .loop in
-    let a = c .before .before .before .before .before .before .before .before .before .before .before .before .args in
-    let u = inUse (getD (a .t .now) (slotAt (l .j)) 0) in
-    let h = holdingAt (a .t .now) (slotAt (l .j)) in
-    let k = holdingAt (a .t .now) (a .c) in
-    let e = address-is (a .t .now) (a .c) (c .before .before .before .before .before .before .before .before .before .get64 .ensures) (c .before .before .before .before .before .before .before .before .get642 .ensures) in
+    let a = c .before .before .before .before .before .before .before .before .before .before .before .before .before .args in
+    let u = inUse (getD (a .slots .now) (320 * l .j) 0) in
+    let h = holdingAt 0 (a .slots .now) (320 * l .j) in
+    let k = holdingAt 0 (a .slots .now) (a .c) in
+    let e = address-is (a .slots .now) (a .c) (c .before .before .before .before .before .before .before .before .before .get64 .ensures) (c .before .before .before .before .before .before .before .before .get642 .ensures) in
     let s = same-asked u h k _ e (sym (c .before .before .before .has-holder .ensures) ∙ c .before .before .if2 .taken) (sym (c .before .same-asked .ensures) ∙ c .if3 .taken) in
-    rw (every-no (a .t .now) (a .i) (l .j) (omega arith) (λ x. not (sameQuestion x k)) s, and-false)
+    rw (every-no 0 (a .slots .now) (a .i) (l .j) (omega arith) (λ x. not (sameQuestion x k)) s, and-false)
 
 add-k : tie.Need-add-k Inv-loop μ-loop
 add-k c = search needs
@@ -102,22 +99,22 @@ loop-again : tie.Need-loop-again Inv-loop μ-loop
 unfolding holdingAt readEntry
 loop-again c =
     let l = c .before .before .before .before .before .loop in
-    let a = c .before .before .before .before .before .before .before .before .before .before .args in
+    let a = c .before .before .before .before .before .before .before .before .before .before .before .args in
     let x = c .before .before .before .before .before .before .before .before .number-at in
-    let u = inUse (getD (a .t .now) (slotAt (l .j)) 0) in
-    let h = holdingAt (a .t .now) (slotAt (l .j)) in
-    let k = holdingAt (a .t .now) (a .c) in
-    let e = address-is (a .t .now) (a .c) (c .before .before .before .before .before .before .before .get64 .ensures) (c .before .before .before .before .before .before .get642 .ensures) in
+    let u = inUse (getD (a .slots .now) (320 * l .j) 0) in
+    let h = holdingAt 0 (a .slots .now) (320 * l .j) in
+    let k = holdingAt 0 (a .slots .now) (a .c) in
+    let e = address-is (a .slots .now) (a .c) (c .before .before .before .before .before .before .before .get64 .ensures) (c .before .before .before .before .before .before .get642 .ensures) in
     let b = sym (c .before .has-holder .ensures) in
     let o = other-number u h (x .result .0) (sym (c .before .before .before .has-number .ensures) ∙ c .before .before .if1 .left) in
-    let p = every-yes (a .t .now) (l .j) (λ h. not (numbered (x .result .0) h)) o (l .inv .2) in
+    let p = every-yes 0 (a .slots .now) (l .j) (λ h. not (numbered (x .result .0) h)) o (l .inv .2) in
     ⊎-elim
     (λ w.
     let s = other-asked u h k _ e (b ∙ w .0 .taken) (sym (w .1 .ensures) ∙ w .2 .left) in
-    (omega arith, omega arith, p, every-yes _ (l .j) _ s (l .inv .3), rw (w .3) (count-hit _ (l .j) _ (l .k) (b ∙ w .0 .taken) (l .inv .4))))
+    (omega arith, omega arith, p, every-yes 0 _ (l .j) _ s (l .inv .3), rw (w .3) (count-hit 0 _ (l .j) _ (l .k) (b ∙ w .0 .taken) (l .inv .4))))
     (λ w.
     let s = other-holder u h k _ e (b ∙ w .0 .left) in
-    (omega arith, omega arith, p, every-yes _ (l .j) _ s (l .inv .3), rw (w .1) (count-miss _ (l .j) _ (l .k) (b ∙ w .0 .left) (l .inv .4))))
+    (omega arith, omega arith, p, every-yes 0 _ (l .j) _ s (l .inv .3), rw (w .1) (count-miss 0 _ (l .j) _ (l .k) (b ∙ w .0 .left) (l .inv .4))))
     (c .if2 .came)
 
 address-beyond-share-requires : tie.Need-address-beyond-share-requires Inv-loop μ-loop
@@ -127,9 +124,9 @@ returns-3 : tie.Need-returns-3 Inv-loop μ-loop
 unfolding holdingAt readEntry
 returns-3 c =
     let l = c .before .before .loop in
-    let a = c .before .before .before .before .before .before .before .args in
+    let a = c .before .before .before .before .before .before .before .before .args in
     let x = c .before .before .before .before .before .number-at in
-    let f = address-is (a .t .now) (a .c) (c .before .before .before .before .get64 .ensures) (c .before .before .before .get642 .ensures) in
+    let f = address-is (a .slots .now) (a .c) (c .before .before .before .before .get64 .ensures) (c .before .before .before .get642 .ensures) in
     let e : l .j ≡ a .i = omega arith in
     rw (← x .ensures, ← e, l .inv .2, l .inv .3, f, ← l .inv .4) (c .address-beyond-share .ensures)
 
@@ -146,7 +143,6 @@ entry-beyond-share-spec =
     get64-requires-2
     loop-holds
     mul-a
-    add-a
     has-number-requires
     returns
     has-holder-requires

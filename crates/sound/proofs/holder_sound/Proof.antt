@@ -7,7 +7,7 @@ use native.Mathlib.Omega.{arith}
 use borrow.Author.Needs.{needs}
 use lib.ListN.{getD}
 use Rattle.model.specs.Lists.{count, every}
-use Rattle.model.specs.Table.{slotAt, readEntry}
+use Rattle.model.specs.Table.{readEntry}
 use Rattle.model.specs.Rules.{heldBy}
 use Rattle.model.specs.Sound.{sameQuestion}
 use Rattle.model.proofs.ListLaws.{every-not}
@@ -27,17 +27,17 @@ use Rattle.record.proofs.same_asked.Reads as same-asked-reads
 use Rattle.sound.proofs.may_add.Reads as may-add-reads
 
 abbrev Inv-loop : tie.InvT-loop
-Inv-loop t from i c m hi lo k₀ j₀ k j = (j ≤ i) × (k ≤ j) × (every (λ h. not (sameQuestion h (holdingAt t c))) (heldTo t j) ≡ true) × (k ≡ count (heldTo t j) (heldBy (hi * 2 ^ 64 + lo)))
+Inv-loop lines slots from i c m hi lo k₀ j₀ k j = (j ≤ i) × (k ≤ j) × (every (λ h. not (sameQuestion h (holdingAt 0 slots c))) (heldTo 0 slots j) ≡ true) × (k ≡ count (heldTo 0 slots j) (heldBy (hi * 2 ^ 64 + lo)))
 
 abbrev μ-loop : tie.MeasureT-loop
-μ-loop t from i c m hi lo k₀ j₀ k j = i - j
+μ-loop lines slots from i c m hi lo k₀ j₀ k j = i - j
 
 returns : tie.Need-returns Inv-loop μ-loop
 returns c =
-    let z = c .before .before in
-    let k = holdingAt (z .args .t .now) (z .args .c) in
+    let z = c .before .before .before in
+    let k = holdingAt 0 (z .args .slots .now) (z .args .c) in
     let e : z .args .from ≡ z .args .i = omega arith in
-    sym (fits-none (z .args .t .now) (linesTo (z .args .t .now) (z .args .m)) (z .args .i) k (z .pre .5) (rw e at (z .pre .6)))
+    sym (fits-none (z .args .slots .now) (linesTo (z .args .lines .now) (z .args .m)) (z .args .i) k (z .pre .6) (rw e at (z .pre .7)))
 
 add-get64 : tie.Need-add-get64 Inv-loop μ-loop
 add-get64 c = search needs
@@ -54,17 +54,14 @@ get64-requires-2 c κs = search needs
 loop-holds : tie.Need-loop-holds Inv-loop μ-loop
 unfolding holdingAt readEntry
 loop-holds c =
-    let a = c .before .before .before .before .args in
-    let k = holdingAt (a .t .now) (a .c) in
-    let e = address-is (a .t .now) (a .c) (c .before .get64 .ensures) (c .get642 .ensures) in
-    let n = c .before .before .before .before .pre .6 in
+    let a = c .before .before .before .before .before .args in
+    let k = holdingAt 0 (a .slots .now) (a .c) in
+    let e = address-is (a .slots .now) (a .c) (c .before .get64 .ensures) (c .get642 .ensures) in
+    let n = c .before .before .before .before .before .pre .7 in
     (search needs, search needs, none-asks k _ n, rw e at (sym (every-not (heldBy (k .address)) _ n)))
 
 mul-a : tie.Need-mul-a Inv-loop μ-loop
 mul-a c = search needs
-
-add-a : tie.Need-add-a Inv-loop μ-loop
-add-a c = search needs
 
 has-holder-requires : tie.Need-has-holder-requires Inv-loop μ-loop
 has-holder-requires c κs = search needs
@@ -76,13 +73,13 @@ returns-2 : tie.Need-returns-2 Inv-loop μ-loop
 unfolding holdingAt readEntry
 returns-2 c =
     let l = c .before .before .before .before .before .loop in
-    let a = c .before .before .before .before .before .before .before .before .before .before .args in
-    let u = inUse (getD (a .t .now) (slotAt (l .j)) 0) in
-    let h = holdingAt (a .t .now) (slotAt (l .j)) in
-    let k = holdingAt (a .t .now) (a .c) in
-    let e = address-is (a .t .now) (a .c) (c .before .before .before .before .before .before .before .get64 .ensures) (c .before .before .before .before .before .before .get642 .ensures) in
+    let a = c .before .before .before .before .before .before .before .before .before .before .before .args in
+    let u = inUse (getD (a .slots .now) (320 * l .j) 0) in
+    let h = holdingAt 0 (a .slots .now) (320 * l .j) in
+    let k = holdingAt 0 (a .slots .now) (a .c) in
+    let e = address-is (a .slots .now) (a .c) (c .before .before .before .before .before .before .before .get64 .ensures) (c .before .before .before .before .before .before .get642 .ensures) in
     let s = same-asked u h k _ e (sym (c .before .before .before .has-holder .ensures) ∙ c .before .before .if2 .taken) (sym (c .before .same-asked .ensures) ∙ c .if3 .taken) in
-    rw (every-no (a .t .now) (a .i) (l .j) (omega arith) (λ x. not (sameQuestion x k)) s)
+    rw (every-no 0 (a .slots .now) (a .i) (l .j) (omega arith) (λ x. not (sameQuestion x k)) s)
 
 add-k : tie.Need-add-k Inv-loop μ-loop
 add-k c = search needs
@@ -97,19 +94,19 @@ loop-again : tie.Need-loop-again Inv-loop μ-loop
 unfolding holdingAt readEntry
 loop-again c =
     let l = c .before .before .before .loop in
-    let a = c .before .before .before .before .before .before .before .before .args in
-    let u = inUse (getD (a .t .now) (slotAt (l .j)) 0) in
-    let h = holdingAt (a .t .now) (slotAt (l .j)) in
-    let k = holdingAt (a .t .now) (a .c) in
-    let e = address-is (a .t .now) (a .c) (c .before .before .before .before .before .get64 .ensures) (c .before .before .before .before .get642 .ensures) in
+    let a = c .before .before .before .before .before .before .before .before .before .args in
+    let u = inUse (getD (a .slots .now) (320 * l .j) 0) in
+    let h = holdingAt 0 (a .slots .now) (320 * l .j) in
+    let k = holdingAt 0 (a .slots .now) (a .c) in
+    let e = address-is (a .slots .now) (a .c) (c .before .before .before .before .before .get64 .ensures) (c .before .before .before .before .get642 .ensures) in
     let b = sym (c .before .has-holder .ensures) in
     ⊎-elim
     (λ w.
     let s = other-asked u h k _ e (b ∙ w .0 .taken) (sym (w .1 .ensures) ∙ w .2 .left) in
-    (omega arith, omega arith, every-yes _ (l .j) _ s (l .inv .2), rw (w .3) (count-hit _ (l .j) _ (l .k) (b ∙ w .0 .taken) (l .inv .3))))
+    (omega arith, omega arith, every-yes 0 _ (l .j) _ s (l .inv .2), rw (w .3) (count-hit 0 _ (l .j) _ (l .k) (b ∙ w .0 .taken) (l .inv .3))))
     (λ w.
     let s = other-holder u h k _ e (b ∙ w .0 .left) in
-    (omega arith, omega arith, every-yes _ (l .j) _ s (l .inv .2), rw (w .1) (count-miss _ (l .j) _ (l .k) (b ∙ w .0 .left) (l .inv .3))))
+    (omega arith, omega arith, every-yes 0 _ (l .j) _ s (l .inv .2), rw (w .1) (count-miss 0 _ (l .j) _ (l .k) (b ∙ w .0 .left) (l .inv .3))))
     (c .if2 .came)
 
 may-add-requires : tie.Need-may-add-requires Inv-loop μ-loop
@@ -119,8 +116,8 @@ returns-3 : tie.Need-returns-3 Inv-loop μ-loop
 unfolding holdingAt readEntry
 returns-3 c =
     let l = c .before .before .loop in
-    let a = c .before .before .before .before .before .before .before .args in
-    let f = address-is (a .t .now) (a .c) (c .before .before .before .before .get64 .ensures) (c .before .before .before .get642 .ensures) in
+    let a = c .before .before .before .before .before .before .before .before .args in
+    let f = address-is (a .slots .now) (a .c) (c .before .before .before .before .get64 .ensures) (c .before .before .before .get642 .ensures) in
     let e : l .j ≡ a .i = omega arith in
     rw (← e, l .inv .2, f, ← l .inv .3) (c .may-add .ensures)
 
@@ -137,7 +134,6 @@ holder-sound-spec =
     get64-requires-2
     loop-holds
     mul-a
-    add-a
     has-holder-requires
     same-asked-requires
     returns-2

@@ -39,14 +39,14 @@ reserve-of-requires c κs = search needs
 
 returns-3 : tie.Need-returns-3
 returns-3 c =
-    let a = c .before .before .before .before .before .before .before .args in
-    let r : reserve (linesTo (a .t .now) (a .m)) (count (heldTo (a .t .now) (a .n))) ≡ 0 = sym (c .before .reserve-of .ensures .1) ∙ c .if3 .taken in
+    let a = c .before .before .before .before .before .before .before .before .args in
+    let r : reserve (linesTo (a .lines .now) (a .m)) (count (heldTo 0 (a .slots .now) (a .n))) ≡ 0 = sym (c .before .reserve-of .ensures .1) ∙ c .if3 .taken in
     rw (
       sym (c .before .before .before .before .before .numbers-apart .ensures) ∙ not-false _ (c .before .before .before .before .if1 .left),
       sym (c .before .before .before .holders-sound .ensures) ∙ not-false _ (c .before .before .if2 .left),
       r,
     )
-    (sym (le-leb (0 + count (heldTo (a .t .now) (a .n)) any) (a .n) (omega (arith, count-most (a .t .now) any (a .n)))))
+    (sym (le-leb (0 + count (heldTo 0 (a .slots .now) (a .n)) any) (a .n) (omega (arith, count-most 0 (a .slots .now) any (a .n)))))
 
 held-requires : tie.Need-held-requires
 held-requires c κs = search needs

@@ -1,12 +1,12 @@
 -- `sound::number_apart` meets its contract: no entry passed has the number. Assumes nothing.
-use Prim.Native.Nat.{_-_, _≤_}
+use Prim.Native.Nat.{_-_, _*_, _≤_}
 use mathlib.Core.Path.{_≡_, sym, _∙_}
 use mathlib.Core.Bool.{true, not}
 use native.Mathlib.Omega.{arith}
 use borrow.Author.Needs.{needs}
 use lib.ListN.{getD}
 use Rattle.model.specs.Lists.{every}
-use Rattle.model.specs.Table.{slotAt, readEntry}
+use Rattle.model.specs.Table.{readEntry}
 use Rattle.model.specs.Rules.{numbered}
 use Rattle.layout.specs.Shape.{inUse}
 use Rattle.layout.specs.Held.{holdingAt, heldTo}
@@ -20,10 +20,10 @@ use Rattle.record.proofs.number_at.Reads as number-at-reads
 use Rattle.record.proofs.has_number.Reads as has-number-reads
 
 abbrev Inv-loop : tie.InvT-loop
-Inv-loop t from i c number j₀ j = (j ≤ i) × (every (λ h. not (numbered (number .0) h)) (heldTo t j) ≡ true)
+Inv-loop slots from i c number j₀ j = (j ≤ i) × (every (λ h. not (numbered (number .0) h)) (heldTo 0 slots j) ≡ true)
 
 abbrev μ-loop : tie.MeasureT-loop
-μ-loop t from i c number j₀ j = i - j
+μ-loop slots from i c number j₀ j = i - j
 
 returns : tie.Need-returns Inv-loop μ-loop
 returns c =
@@ -41,9 +41,6 @@ loop-holds c = (search needs, rw (c .number-at .ensures) (c .before .before .bef
 mul-has-number : tie.Need-mul-has-number Inv-loop μ-loop
 mul-has-number c = search needs
 
-add-has-number : tie.Need-add-has-number Inv-loop μ-loop
-add-has-number c = search needs
-
 has-number-requires : tie.Need-has-number-requires Inv-loop μ-loop
 has-number-requires c κs = search needs
 
@@ -52,8 +49,8 @@ unfolding holdingAt readEntry
 returns-2 c =
     let l = c .before .before .before .loop in
     let a = c .before .before .before .before .before .before .before .args in
-    let s = same-number (inUse (getD (a .t .now) (slotAt (l .j)) 0)) (holdingAt (a .t .now) (slotAt (l .j))) (c .before .before .before .before .number-at .result .0) (sym (c .before .has-number .ensures) ∙ c .if2 .taken) in
-    rw (← (c .before .before .before .before .number-at .ensures)) (sym (every-no (a .t .now) (a .i) (l .j) (omega arith) (λ h. not (numbered (c .before .before .before .before .number-at .result .0) h)) s))
+    let s = same-number (inUse (getD (a .slots .now) (320 * l .j) 0)) (holdingAt 0 (a .slots .now) (320 * l .j)) (c .before .before .before .before .number-at .result .0) (sym (c .before .has-number .ensures) ∙ c .if2 .taken) in
+    rw (← (c .before .before .before .before .number-at .ensures)) (sym (every-no 0 (a .slots .now) (a .i) (l .j) (omega arith) (λ h. not (numbered (c .before .before .before .before .number-at .result .0) h)) s))
 
 add-j : tie.Need-add-j Inv-loop μ-loop
 add-j c = search needs
@@ -65,8 +62,8 @@ loop-again : tie.Need-loop-again Inv-loop μ-loop
 loop-again c =
     let l = c .before .before .before .loop in
     let a = c .before .before .before .before .before .before .before .args in
-    let s = other-number (inUse (getD (a .t .now) (slotAt (l .j)) 0)) (holdingAt (a .t .now) (slotAt (l .j))) (c .before .before .before .before .number-at .result .0) (sym (c .before .has-number .ensures) ∙ c .if2 .left) in
-    (omega arith, every-yes (a .t .now) (l .j) (λ h. not (numbered (c .before .before .before .before .number-at .result .0) h)) s (l .inv .1))
+    let s = other-number (inUse (getD (a .slots .now) (320 * l .j) 0)) (holdingAt 0 (a .slots .now) (320 * l .j)) (c .before .before .before .before .number-at .result .0) (sym (c .before .has-number .ensures) ∙ c .if2 .left) in
+    (omega arith, every-yes 0 (a .slots .now) (l .j) (λ h. not (numbered (c .before .before .before .before .number-at .result .0) h)) s (l .inv .1))
 
 returns-3 : tie.Need-returns-3 Inv-loop μ-loop
 unfolding holdingAt readEntry
@@ -84,7 +81,6 @@ number-apart-spec =
     number-at-requires
     loop-holds
     mul-has-number
-    add-has-number
     has-number-requires
     returns-2
     add-j

@@ -7,7 +7,6 @@ use borrow.Author.Tests.{not-true, not-false, eq-eqb, ne-eqb, le-leb}
 use lib.ListN.{length}
 use Rattle.model.specs.Calls.{goodRoster}
 use Rattle.layout.specs.Shape.{all}
-use Rattle.layout.proofs.LayoutLaws.{lines-given}
 use Rattle.sound.proofs.HolderLaws.{too-long}
 use Rattle.sound.proofs.roster_sound.Statement.{statement}
 use Rattle.sound.proofs.roster_sound.Tie as tie
@@ -44,7 +43,7 @@ unfolding goodRoster all
 returns-4 c =
     let r = c .before .before .before .before .before .before .args .r .now in
     let m : length r / 19 ≤ 16 = omega arith in
-    rw (eq-eqb (length r) (19 * (length r / 19)) (sym (c .before .before .before .if2 .left)), le-leb (length r / 19) 16 m, sym (c .before .before .kinds-listed .ensures) ∙ not-false _ (c .before .if3 .left), ← lines-given r)
+    rw (eq-eqb (length r) (19 * (length r / 19)) (sym (c .before .before .before .if2 .left)), le-leb (length r / 19) 16 m, sym (c .before .before .kinds-listed .ensures) ∙ not-false _ (c .before .if3 .left))
     (c .lines-sound .ensures)
 
 pub roster-sound-spec : {M : Type 1} → statement M

@@ -11,9 +11,6 @@ use Rattle.record.proofs.valid_entry.Reads as valid-entry-reads
 mul-a : tie.Need-mul-a
 mul-a c = search needs
 
-add-a : tie.Need-add-a
-add-a c = search needs
-
 shared-slice-read-in-use : tie.Need-shared-slice-read-in-use
 shared-slice-read-in-use c = search needs
 
@@ -34,7 +31,6 @@ slot-valid-spec =
     tie.close
     (tie.spec
     mul-a
-    add-a
     shared-slice-read-in-use
     in-use-requires
     valid-entry-requires

@@ -12,9 +12,6 @@ use Rattle.octets.proofs.put8.Reads as put8-reads
 mul-a : tie.Need-mul-a
 mul-a c = search needs
 
-add-a : tie.Need-add-a
-add-a c = search needs
-
 put8-requires : tie.Need-put8-requires
 put8-requires c κs = search needs
 
@@ -33,4 +30,4 @@ returns c =
 
 pub clear-line-spec : {M : Type 1} → statement M
 clear-line-spec =
-    tie.close (tie.spec mul-a add-a put8-requires add-clear clear-requires same-length returns)
+    tie.close (tie.spec mul-a put8-requires add-clear clear-requires same-length returns)

@@ -5,7 +5,6 @@ use mathlib.Core.Path.{_≡_, refl, _∙_}
 use borrow.Author.Needs.{needs}
 use lib.ListN.{length}
 use Rattle.model.specs.Numbers.{splice}
-use Rattle.model.specs.Table.{lineAt}
 use Rattle.table.specs.Fresh.{unusedLines}
 use Rattle.table.proofs.FreshLaws as made
 use Rattle.table.proofs.clear_lines.Statement.{statement}
@@ -15,10 +14,10 @@ use Rattle.table.proofs.clear_lines.Lts as lts
 use Rattle.table.proofs.clear_line.Reads as clear-line-reads
 
 abbrev Inv-loop : tie.InvT-loop
-Inv-loop t₀ m k₀ t k = (k ≤ 16 - m) × (length t ≡ length t₀) × (t ≡ splice (lineAt m) (19 * k) (unusedLines k) t₀)
+Inv-loop lines₀ m k₀ lines k = (k ≤ 16 - m) × (length lines ≡ length lines₀) × (lines ≡ splice (19 * m) (19 * k) (unusedLines k) lines₀)
 
 abbrev μ-loop : tie.MeasureT-loop
-μ-loop t₀ m k₀ t k = 16 - m - k
+μ-loop lines₀ m k₀ lines k = 16 - m - k
 
 loop-holds : tie.Need-loop-holds Inv-loop μ-loop
 loop-holds c = (search needs, refl, made.lines-none _ _)
@@ -41,7 +40,7 @@ loop-less c = search needs
 loop-again : tie.Need-loop-again Inv-loop μ-loop
 loop-again c =
     let l = c .before .before .before .before .before .loop in
-    (omega arith, c .before .before .clear-line .kept .0 ∙ l .inv .1, made.lines-more (c .before .before .before .before .before .before .before .args .t .now) (l .t) _ (c .before .before .before .before .before .before .before .args .m) (l .k) (omega arith) (l .inv .2) (c .before .before .clear-line .ensures))
+    (omega arith, c .before .before .clear-line .kept .0 ∙ l .inv .1, made.lines-more (c .before .before .before .before .before .before .before .args .lines .now) (l .lines) _ (c .before .before .before .before .before .before .before .args .m) (l .k) (omega arith) (l .inv .2) (c .before .before .clear-line .ensures))
 
 same-length : tie.Need-same-length Inv-loop μ-loop
 same-length c = search needs

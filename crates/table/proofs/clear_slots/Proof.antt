@@ -14,10 +14,10 @@ use Rattle.table.proofs.clear_slots.Lts as lts
 use Rattle.table.proofs.end_entry.Reads as end-entry-reads
 
 abbrev Inv-loop : tie.InvT-loop
-Inv-loop t₀ n i₀ t i = (i ≤ n) × (length t ≡ length t₀) × (t ≡ splice 313 (320 * i) (freeSlots i) t₀)
+Inv-loop slots₀ n i₀ slots i = (i ≤ n) × (length slots ≡ length slots₀) × (slots ≡ splice 0 (320 * i) (freeSlots i) slots₀)
 
 abbrev μ-loop : tie.MeasureT-loop
-μ-loop t₀ n i₀ t i = n - i
+μ-loop slots₀ n i₀ slots i = n - i
 
 loop-holds : tie.Need-loop-holds Inv-loop μ-loop
 loop-holds c = (search needs, refl, made.slots-none _ _)
@@ -34,7 +34,7 @@ loop-less c = search needs
 loop-again : tie.Need-loop-again Inv-loop μ-loop
 loop-again c =
     let l = c .before .before .before .before .before .loop in
-    (omega arith, c .before .before .end-entry .kept .0 ∙ l .inv .1, made.slots-more (c .before .before .before .before .before .before .before .args .t .now) (l .t) _ (l .i) (omega arith) (l .inv .2) (c .before .before .end-entry .ensures))
+    (omega arith, c .before .before .end-entry .kept .0 ∙ l .inv .1, made.slots-more (c .before .before .before .before .before .before .before .args .slots .now) (l .slots) _ (l .i) (omega arith) (l .inv .2) (c .before .before .end-entry .ensures))
 
 same-length : tie.Need-same-length Inv-loop μ-loop
 same-length c = search needs

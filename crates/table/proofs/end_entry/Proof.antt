@@ -13,9 +13,6 @@ use Rattle.record.proofs.kind_byte.Reads as kind-byte-reads
 mul-a : tie.Need-mul-a
 mul-a c = search needs
 
-add-a : tie.Need-add-a
-add-a c = search needs
-
 kind-byte-requires : tie.Need-kind-byte-requires
 kind-byte-requires c κs = search needs
 
@@ -37,4 +34,4 @@ returns c =
 
 pub end-entry-spec : {M : Type 1} → statement M
 end-entry-spec =
-    tie.close (tie.spec mul-a add-a kind-byte-requires put8-requires add-clear clear-requires same-length returns)
+    tie.close (tie.spec mul-a kind-byte-requires put8-requires add-clear clear-requires same-length returns)

@@ -10,9 +10,6 @@ use Rattle.record.proofs.kind_byte.Reads as kind-byte-reads
 mul-a : tie.Need-mul-a
 mul-a c = search needs
 
-add-a : tie.Need-add-a
-add-a c = search needs
-
 kind-byte-requires : tie.Need-kind-byte-requires
 kind-byte-requires c κs = search needs
 
@@ -27,4 +24,4 @@ returns c = rw (c .before .before .put8 .ensures, c .before .before .before .kin
 
 pub establish-at-spec : {M : Type 1} → statement M
 establish-at-spec =
-    tie.close (tie.spec mul-a add-a kind-byte-requires put8-requires same-length returns)
+    tie.close (tie.spec mul-a kind-byte-requires put8-requires same-length returns)

@@ -1,17 +1,18 @@
 -- `table::make_fresh` meets its contract. Assumes nothing.
 use native.Mathlib.Omega.{arith}
-use borrow.Author.Needs.{needs}
-use Rattle.model.proofs.NumberLaws.{part-all}
+use Rattle.model.specs.Numbers.{Bytes}
 use Rattle.model.proofs.CallLaws.{given-roster}
+use Rattle.layout.proofs.PartLaws.{tail-written}
 use Rattle.table.proofs.FreshLaws as made
+use borrow.Author.Needs.{needs}
 use Rattle.table.proofs.make_fresh.Statement.{statement}
 use Rattle.table.proofs.make_fresh.Tie as tie
 use Rattle.table.proofs.make_fresh.Reads as reads
 use Rattle.table.proofs.make_fresh.Lts as lts
 use Rattle.octets.proofs.copy.Reads as copy-reads
+use Rattle.octets.proofs.put8.Reads as put8-reads
 use Rattle.table.proofs.clear_lines.Reads as clear-lines-reads
 use Rattle.table.proofs.clear_slots.Reads as clear-slots-reads
-use Rattle.octets.proofs.put8.Reads as put8-reads
 use Rattle.table.proofs.put_clock.Reads as put-clock-reads
 
 put8-requires : tie.Need-put8-requires
@@ -23,14 +24,32 @@ put-clock-requires c κs = search needs
 copy-requires : tie.Need-copy-requires
 copy-requires c κs =
     let z = c .before .before .before .before .before .before .before .before .before .before .before in
-    let g = given-roster (z .args .n) (z .args .roster .now) (z .pre .1) in
+    let g = given-roster (z .args .l .n) (z .args .roster .now) (z .pre .2) in
     (omega (arith, z, g .whole, g .few), omega (arith, z, g .whole, g .few))
+
+sub-clear-lines : tie.Need-sub-clear-lines
+sub-clear-lines c = search needs
+
+part-clear-lines-start : tie.Need-part-clear-lines-start
+part-clear-lines-start c = search needs
+
+part-clear-lines-end : tie.Need-part-clear-lines-end
+part-clear-lines-end c = search needs
 
 clear-lines-requires : tie.Need-clear-lines-requires
 clear-lines-requires c κs =
     let z = c .before .before .before .before .before .before .before .before .before .before .before .before .before .before .before in
-    let g = given-roster (z .args .n) (z .args .roster .now) (z .pre .1) in
+    let g = given-roster (z .args .l .n) (z .args .roster .now) (z .pre .2) in
     (omega (arith, g .few), omega (arith, z, g .few))
+
+sub-clear-slots : tie.Need-sub-clear-slots
+sub-clear-slots c = search needs
+
+part-clear-slots-start : tie.Need-part-clear-slots-start
+part-clear-slots-start c = search needs
+
+part-clear-slots-end : tie.Need-part-clear-slots-end
+part-clear-slots-end c = search needs
 
 clear-slots-requires : tie.Need-clear-slots-requires
 clear-slots-requires c κs = search needs
@@ -41,8 +60,10 @@ same-length c = search needs
 returns : tie.Need-returns
 returns c =
     let z = c .before .before .before .before .before .before .before .before .before .before .before .before .before .before .before .before .before .before .before .before .before .before in
-    rw (c .before .before .clear-slots .ensures, c .before .before .before .before .before .before .clear-lines .ensures, c .before .before .before .before .before .before .before .before .before .before .copy .ensures, c .before .before .before .before .before .before .before .before .before .before .before .before .before .before .put-clock .ensures, c .before .before .before .before .before .before .before .before .before .before .before .before .before .before .before .before .before .before .put8 .ensures, part-all (z .args .roster .now))
-    (made.fresh-bytes (z .args .roster .now) (λ j. omega (arith, c .before .before .before .before .before .before .before .before .before .before .before .before .before .before .before .before .before .before .before .before .shared-slice-known .given j)) (z .args .n) (z .pre .1) (z .args .t .now) (z .args .place) (z .pre .0))
+    let a = z .args in
+    let bytes : Bytes (a .roster .now) = λ j. omega (arith, c .before .before .before .before .before .before .before .before .before .before .before .before .before .before .before .before .before .before .before .before .shared-slice-known .given j) in
+    made.fresh-written (a .roster .now) bytes (a .l .n) (z .pre .2) (a .t .now) (a .place) (z .pre .1) (z .pre .0 .0) (c .before .before .before .before .before .before .before .before .before .before .before .before .before .before .before .before .before .before .put8 .ensures) (c .before .before .before .before .before .before .before .before .before .before .before .before .before .before .put-clock .ensures) (c .before .before .before .before .before .before .before .before .before .before .copy .ensures)
+    (tail-written _ _ _ _ (z .pre .0 .0) (c .before .before .before .before .before .before .clear-lines .ensures)) (tail-written _ 0 _ _ (z .pre .0 .1) (c .before .before .clear-slots .ensures))
 
 pub make-fresh-spec : {M : Type 1} → statement M
 make-fresh-spec =
@@ -51,7 +72,13 @@ make-fresh-spec =
     put8-requires
     put-clock-requires
     copy-requires
+    sub-clear-lines
+    part-clear-lines-start
+    part-clear-lines-end
     clear-lines-requires
+    sub-clear-slots
+    part-clear-slots-start
+    part-clear-slots-end
     clear-slots-requires
     same-length
     returns)

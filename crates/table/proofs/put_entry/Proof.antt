@@ -11,9 +11,6 @@ use Rattle.table.proofs.put_slot.Reads as put-slot-reads
 mul-a : tie.Need-mul-a
 mul-a c = search needs
 
-add-a : tie.Need-add-a
-add-a c = search needs
-
 add-z : tie.Need-add-z
 add-z c = search needs
 
@@ -40,7 +37,6 @@ put-entry-spec =
     tie.close
     (tie.spec
     mul-a
-    add-a
     add-z
     sub-put-slot
     part-put-slot-start

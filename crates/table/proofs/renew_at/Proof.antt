@@ -4,7 +4,6 @@ use native.Mathlib.Omega.{arith}
 use mathlib.Core.Path.{_≡_}
 use mathlib.Core.List.{List, [], _∷_}
 use borrow.Author.Needs.{needs}
-use Rattle.model.specs.Table.{slotAt}
 use Rattle.model.proofs.NumberLaws.{writes-eq}
 use Rattle.table.proofs.renew_at.Statement.{statement}
 use Rattle.table.proofs.renew_at.Tie as tie
@@ -14,9 +13,6 @@ use Rattle.octets.proofs.put32.Reads as put32-reads
 
 mul-a : tie.Need-mul-a
 mul-a c = search needs
-
-add-a : tie.Need-add-a
-add-a c = search needs
 
 add-put32 : tie.Need-add-put32
 add-put32 c = search needs
@@ -37,15 +33,14 @@ returns : tie.Need-returns
 returns c =
     let z = c .before .before .before .before .before .before .before .before .before in
     let fs : List (ℕ × ℕ) = (4, z .args .lease) ∷ (4, z .args .stamp) ∷ [] in
-    let p : 313 + 320 * z .args .i + 31 ≡ 313 + 320 * z .args .i + 27 + 4 = omega arith in
-    rw (c .before .before .put322 .ensures, c .before .before .before .before .before .before .put32 .ensures, p) (writes-eq fs (slotAt (z .args .i) + 27) (z .args .t .now) (omega (arith, z)))
+    let p : 320 * z .args .i + 31 ≡ 320 * z .args .i + 27 + 4 = omega arith in
+    rw (c .before .before .put322 .ensures, c .before .before .before .before .before .before .put32 .ensures, p) (writes-eq fs (320 * z .args .i + 27) (z .args .slots .now) (omega (arith, z)))
 
 pub renew-at-spec : {M : Type 1} → statement M
 renew-at-spec =
     tie.close
     (tie.spec
     mul-a
-    add-a
     add-put32
     put32-requires
     add-put32-2
