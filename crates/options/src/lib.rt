@@ -226,8 +226,8 @@ fn serve_refresh(
                 return served(o, Outcome::Ended(number));
             }
             let lease = granted_lease(o.lease);
-            let running = octets::get32(t, layout::RUNNING_AT);
-            table::renew_at(&mut t[a..], i, lease, running);
+            let stamp = octets::get32(t, layout::RUNNING_AT);
+            table::renew_at(&mut t[a..], i, lease, stamp);
             served(o, Outcome::Renewed(number, lease))
         }
         Found::Nothing => served(o, Outcome::NoSuchLlq(asked)),

@@ -85,23 +85,23 @@ module _ (r : List ℕ) (bytes : Bytes r) (n : ℕ) (good : goodRoster n r ≡ t
     parts =
         rw (clock-starts (record { place = place; running = 0 }), roster-is, slots-are n) (simp append-assoc)
 
-    fresh-bytes : splice 313 (320 * n) (freeSlots n)
+    fresh-bytes : splice base (320 * n) (freeSlots n)
         (splice (lineAt (rosterCount r)) (19 * (16 - rosterCount r)) (unusedLines (16 - rosterCount r))
-        (splice 9 (length r) r (splice 1 8 (encode fs) (splice 0 1 (bytesOf 1 1) s)))) ≡ tableBytes (fresh place r n)
+        (splice (lineAt 0) (length r) r (splice 1 8 (encode fs) (splice 0 1 (bytesOf 1 1) s)))) ≡ tableBytes (fresh place r n)
     unfolding bytesOf
     fresh-bytes =
         let m = rosterCount r in
         let u = unusedLines (16 - m) in
         let one = splice-on 1 8 (1 ∷ []) (encode fs) s refl (omega (arith, size)) in
-        let c9 : length ((1 ∷ []) ++ encode fs) ≡ 9 = ap suc (length-encode fs) in
-        let two = splice-on 9 (length r) ((1 ∷ []) ++ encode fs) r s c9 (omega (arith, size, given .whole, given .few)) in
-        let cr : length (((1 ∷ []) ++ encode fs) ++ r) ≡ 9 + length r = length-append ((1 ∷ []) ++ encode fs) r ∙ ap (λ (k : ℕ). k + length r) c9 in
-        let l : lineAt m ≡ 9 + length r = omega (arith, given .whole) in
-        let three = splice-on (9 + length r) (19 * (16 - m)) (((1 ∷ []) ++ encode fs) ++ r) u s cr (omega (arith, size, given .whole, given .few)) in
-        let w : 9 + length r + 19 * (16 - m) ≡ 313 = omega (arith, given .whole, given .few) in
-        let cu : length ((((1 ∷ []) ++ encode fs) ++ r) ++ u) ≡ 313 =
+        let ch : length ((1 ∷ []) ++ encode fs) ≡ lineAt 0 = ap suc (length-encode fs) in
+        let two = splice-on (lineAt 0) (length r) ((1 ∷ []) ++ encode fs) r s ch (omega (arith, size, given .whole, given .few)) in
+        let cr : length (((1 ∷ []) ++ encode fs) ++ r) ≡ lineAt 0 + length r = length-append ((1 ∷ []) ++ encode fs) r ∙ ap (λ (k : ℕ). k + length r) ch in
+        let l : lineAt m ≡ lineAt 0 + length r = omega (arith, given .whole) in
+        let three = splice-on (lineAt 0 + length r) (19 * (16 - m)) (((1 ∷ []) ++ encode fs) ++ r) u s cr (omega (arith, size, given .whole, given .few)) in
+        let w : lineAt 0 + length r + 19 * (16 - m) ≡ base = omega (arith, given .whole, given .few) in
+        let cu : length ((((1 ∷ []) ++ encode fs) ++ r) ++ u) ≡ base =
         length-append (((1 ∷ []) ++ encode fs) ++ r) u ∙ (rw (cr, length-lines (16 - m))) ∙ w in
-        let four = splice-on 313 (320 * n) ((((1 ∷ []) ++ encode fs) ++ r) ++ u) (freeSlots n) s cu (omega (arith, size)) in
+        let four = splice-on base (320 * n) ((((1 ∷ []) ++ encode fs) ++ r) ++ u) (freeSlots n) s cu (omega (arith, size)) in
         rw (one, two, l, three, w, four) (splice-all (sizeOf n) _ s size ∙ parts)
 
     -- step by step, as the code writes them

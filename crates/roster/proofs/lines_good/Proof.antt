@@ -9,19 +9,15 @@ use Rattle.roster.proofs.lines_good.Lts as lts
 use Rattle.roster.proofs.lines_apart.Reads as lines-apart-reads
 use Rattle.roster.proofs.lines_valid.Reads as lines-valid-reads
 
--- src/lib.rt:133:9
 lines-valid-requires : tie.Need-lines-valid-requires
 lines-valid-requires c κs = search needs
 
--- src/lib.rt:134:9
 returns : tie.Need-returns
 returns c = rw (sym (c .before .lines-valid .ensures) ∙ not-true _ (c .if1 .taken))
 
--- src/lib.rt:136:5
 lines-apart-requires : tie.Need-lines-apart-requires
 lines-apart-requires c κs = search needs
 
--- src/lib.rt:129:1
 returns-2 : tie.Need-returns-2
 returns-2 c = rw (sym (c .before .before .lines-valid .ensures) ∙ not-false _ (c .before .if1 .left)) (c .lines-apart .ensures)
 

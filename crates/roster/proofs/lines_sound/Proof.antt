@@ -10,20 +10,16 @@ use Rattle.roster.proofs.lines_sound.Lts as lts
 use Rattle.roster.proofs.lines_good.Reads as lines-good-reads
 use Rattle.roster.proofs.share_sum.Reads as share-sum-reads
 
--- src/lib.rt:144:9
 lines-good-requires : tie.Need-lines-good-requires
 lines-good-requires c κs = search needs
 
--- src/lib.rt:145:9
 returns : tie.Need-returns
 unfolding soundRoster
 returns c = rw (sym (c .before .lines-good .ensures) ∙ not-true _ (c .if1 .taken))
 
--- src/lib.rt:147:5
 share-sum-requires : tie.Need-share-sum-requires
 share-sum-requires c κs = search needs
 
--- src/lib.rt:140:1
 returns-2 : tie.Need-returns-2
 unfolding soundRoster
 returns-2 c = rw (sym (c .before .before .lines-good .ensures) ∙ not-false _ (c .before .if1 .left), c .share-sum .ensures)
