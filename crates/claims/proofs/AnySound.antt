@@ -19,10 +19,10 @@ use Rattle.claims.proofs.Relation.{Related}
 use Rattle.claims.proofs.Demand3.Permutations.{perm-alike}
 use Rattle.claims.proofs.Demand3.CallSteps.{Invariant}
 use Rattle.claims.proofs.Demand3.{along}
-use Rattle.claims.proofs.Refusals.HeaderReading.{bad-length}
+use Rattle.claims.proofs.Refusals.HeaderReading.{not-laid}
 use Rattle.model.proofs.ListLaws.{test}
 
-size-of : (b : List ℕ) (s : SoundBytes b) → sizeOf (length (s .table .slots)) ≡ length b
+size-of : (b : List ℕ) (s : SoundBytes b) → sizeOf (s .table .layout) (length (s .table .slots)) ≡ length b
 size-of b s = sym (length-table (s .table) (s .sound .lines) (s .fits)) ∙ ap length (s .bytes)
 
 kept : (b : List ℕ) (y : Tally) → Agrees b y → Invariant (length b) b y
@@ -32,6 +32,7 @@ kept b y g =
       bytes = g .stored .bytes;
       related =
           record {
+            cycle = g .cycle;
             place = g .place;
             running = g .running;
             n = g .n;
@@ -40,7 +41,7 @@ kept b y g =
             sound = g .stored .sound;
             fits = g .stored .fits;
           };
-      room = ap sizeOf (sym (g .n)) ∙ size-of b (g .stored);
+      room = ap (sizeOf (g .stored .table .layout)) (sym (g .n)) ∙ size-of b (g .stored);
     }
 
 right-length : (b : List ℕ) → SoundBytes b → tableLength (length b) ≡ true
@@ -48,7 +49,7 @@ right-length b s =
     ⊎-elim
     (λ (e : tableLength (length b) ≡ true). e)
     (λ (e : tableLength (length b) ≡ false).
-    absurd (bad-length (length b) e (length (s .table .slots)) (s .sound .slotsMin) (s .sound .slotsMax) (sym (size-of b s))))
+    absurd (not-laid (length b) e (length (s .table .slots)) (s .sound .slotsMin) (s .sound .slotsMax) (s .table .layout) (sym (size-of b s))))
     (test (tableLength (length b)))
 
 pub any-sound : AnySound model
@@ -58,5 +59,5 @@ any-sound =
       agrees = λ b s.
           let e : readTable b ≡ s .table = subst (λ (x : List ℕ). readTable x ≡ s .table) (s .bytes) (table-back (s .table) (s .sound .lines) (s .fits)) in
           subst (λ (t : Table). Agrees b (tallyOf t)) (sym e)
-          (record { stored = s; place = refl; running = refl; n = refl; roster = refl; entries = Permᴰ·refl (holdings (s .table)) });
+          (record { stored = s; cycle = refl; place = refl; running = refl; n = refl; roster = refl; entries = Permᴰ·refl (holdings (s .table)) });
     }

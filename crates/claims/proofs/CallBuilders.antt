@@ -19,7 +19,7 @@ use Rattle.model.proofs.ListLaws.{and-left, and-right}
 use Rattle.model.proofs.Meaning.{sound-means}
 use Rattle.claims.specs.Tally.{Call, making, ticking, serving, beginTally}
 use Rattle.claims.specs.Events.{Event, made, ticked, served, callOf, tableOf, Happens, Trace, AllInRange, MakeInRange, TickInRange, ServeInRange, InRange}
-use Rattle.claims.specs.Demand3.{Demand3, Along}
+use Rattle.claims.specs.Demand3.{Agrees, Demand3, Along}
 use Rattle.claims.specs.LiveAge.{leftBy, Since, Summed}
 use Rattle.claims.specs.CallBuilders.{makeAt, tickAt, datagramAt}
 
@@ -83,9 +83,12 @@ from-at-in-range x a p d hx ha hp e = record { week = lit< tt; second = hx; addr
 pub from-in-range : (a p : ℕ) (d : List ℕ) → a < 2 ^ 128 → p < 2 ^ 16 → areBytes d → ServeInRange (from a p d)
 from-in-range a p d = from-at-in-range 0 a p d (lit< tt)
 
--- A TABLE'S BUFFER of n slots, and a reply's of the room that a call says
+-- A TABLE'S BUFFER of n slots, with weeks of ten bits and of thirteen, and a reply's of the room that a call says
 abbrev pub tableBuffer : ℕ → List ℕ
 tableBuffer n = replicate (313 + 320 * n) 0
+
+abbrev pub wideBuffer : ℕ → List ℕ
+wideBuffer n = replicate (317 + 320 * n) 0
 
 abbrev pub replyBuffer : ServeCall → List ℕ
 replyBuffer c = replicate (c .room) 0
@@ -122,20 +125,26 @@ pub all-in-range : (s : Server) (b : List ℕ) (cs : List Call) → CallsInRange
 all-in-range s b [] r = tt
 all-in-range s b (c ∷ cs) r = (subst InRange (sym (call-of s b c)) (r .0), all-in-range s (tableOf (eventOf s b c)) cs (r .1))
 
--- ON A FRESH TABLE of n slots, with a roster
-module _ (s : Server) (n : ℕ) (r : List ℕ) where
+-- ON A FRESH TABLE in a buffer, with a roster
+module _ (s : Server) (buffer r : List ℕ) where
   abbrev pub freshBytes : List ℕ
-  freshBytes = s .make (makeAt 0 0 r) (tableBuffer n) .table
+  freshBytes = s .make (makeAt 0 0 r) buffer .table
 
-  pub along-calls : Demand3 s → areBytes r → 0 ≡ s .make (makeAt 0 0 r) (tableBuffer n) .number → (cs : List Call) → CallsInRange cs
-      → Along (length (tableBuffer n)) (beginTally (length (tableBuffer n)) (makeAt 0 0 r)) (eventsOf s freshBytes cs)
-  along-calls claim e k cs ranges =
-      claim (tableBuffer n) freshBytes (makeAt 0 0 r) (eventsOf s freshBytes cs) (make-in-range r e) (all-in-range s freshBytes cs ranges)
-      (record { number = k; table = refl }) (trace-of s freshBytes cs) .1
+  -- demand 3 of the table itself and of calls on it
+  pub from-making : Demand3 s → areBytes r → 0 ≡ s .make (makeAt 0 0 r) buffer .number → (cs : List Call) → CallsInRange cs
+      → Agrees freshBytes (beginTally (length buffer) (makeAt 0 0 r))
+      × Along (length buffer) (beginTally (length buffer) (makeAt 0 0 r)) (eventsOf s freshBytes cs)
+  from-making claim e k cs ranges =
+      claim buffer freshBytes (makeAt 0 0 r) (eventsOf s freshBytes cs) (make-in-range r e) (all-in-range s freshBytes cs ranges)
+      (record { number = k; table = refl }) (trace-of s freshBytes cs)
 
-  pub since-stamp : Summed s → areBytes r → 0 ≡ s .make (makeAt 0 0 r) (tableBuffer n) .number → (cs : List Call) → CallsInRange cs → (j : ℕ) (e : Entry)
+  pub along-calls : Demand3 s → areBytes r → 0 ≡ s .make (makeAt 0 0 r) buffer .number → (cs : List Call) → CallsInRange cs
+      → Along (length buffer) (beginTally (length buffer) (makeAt 0 0 r)) (eventsOf s freshBytes cs)
+  along-calls claim e k cs ranges = from-making claim e k cs ranges .1
+
+  pub since-stamp : Summed s → areBytes r → 0 ≡ s .make (makeAt 0 0 r) buffer .number → (cs : List Call) → CallsInRange cs → (j : ℕ) (e : Entry)
       → slotOf (readTable (leftBy freshBytes (eventsOf s freshBytes cs))) j ≡ held e
-      → Since (length (tableBuffer n)) (beginTally (length (tableBuffer n)) (makeAt 0 0 r)) freshBytes (eventsOf s freshBytes cs) j e
+      → Since (length buffer) (beginTally (length buffer) (makeAt 0 0 r)) freshBytes (eventsOf s freshBytes cs) j e
   since-stamp claim e k cs ranges =
-      claim (tableBuffer n) freshBytes (makeAt 0 0 r) (eventsOf s freshBytes cs) (make-in-range r e) (all-in-range s freshBytes cs ranges)
+      claim buffer freshBytes (makeAt 0 0 r) (eventsOf s freshBytes cs) (make-in-range r e) (all-in-range s freshBytes cs ranges)
       (record { number = k; table = refl }) (trace-of s freshBytes cs)

@@ -1,5 +1,5 @@
 -- The claims, all proved of the model's server. Assumes nothing.
-use Rattle.model.specs.Clock.{advance}
+use Rattle.model.specs.Clock.{tenBit, thirteenBit, cycleOf, step, advance}
 use Rattle.model.specs.Names.{compared}
 use Rattle.model.specs.Query.{question}
 use Rattle.model.specs.Meets.{Server, model}
@@ -9,7 +9,7 @@ use Rattle.claims.specs.Others.{KeepsOthers}
 use Rattle.claims.specs.Established.{EstablishedExactly}
 use Rattle.claims.specs.Tick.{Ticking}
 use Rattle.claims.specs.Demand3.{Demand3}
-use Rattle.claims.specs.Samples.{Samples, byTally, ClockSamples, SpanSamples, NameSamples, FoldSettled}
+use Rattle.claims.specs.Samples.{Samples, byTally, ClockSamples, stepByTally, WideSamples, SpanSamples, NameSamples, FoldSettled}
 use Rattle.claims.specs.SoundSamples.{SoundSamples}
 use Rattle.claims.specs.Pins.{Pinned}
 use Rattle.claims.specs.Reply.{ReplyClaim}
@@ -25,7 +25,8 @@ use Rattle.claims.specs.TableLayout.{TableLayout}
 use Rattle.claims.specs.OneSlot.{OneSlot}
 use Rattle.claims.specs.Contracts.{CallsExactly, ContractsExactly}
 use Rattle.claims.specs.Impostors.{Refuted, OwnPlaces}
-use Rattle.claims.specs.Step.{StepMeaning}
+use Rattle.claims.specs.Steps.{Steps}
+use Rattle.claims.specs.Ages.{Ages}
 use Rattle.claims.specs.Resumes.{Resumes}
 use Rattle.claims.specs.Comparing.{Compares, ComparesSettled, ComparisonsRefuted, ClausesIndependent, CompareSamples}
 use Rattle.claims.proofs.Refusals.{refusals}
@@ -34,7 +35,7 @@ use Rattle.claims.proofs.Others.{keeps-others}
 use Rattle.claims.proofs.Established.{established-exactly}
 use Rattle.claims.proofs.Tick.{ticking}
 use Rattle.claims.proofs.Demand3.{demand3}
-use Rattle.claims.proofs.Samples.{samples-hold, clock-samples-hold, span-samples-hold, name-samples-hold, sound-samples-hold, pinned}
+use Rattle.claims.proofs.Samples.{samples-hold, clock-samples-hold, wide-samples-hold, span-samples-hold, name-samples-hold, sound-samples-hold, pinned}
 use Rattle.claims.proofs.FoldSettled.{fold-settled}
 use Rattle.claims.proofs.Reply.{reply-claim}
 use Rattle.claims.proofs.Reading.{reads-queries}
@@ -51,7 +52,8 @@ use Rattle.claims.proofs.OneSlot.{one-slot}
 use Rattle.claims.proofs.Contracts.{calls-exactly, contracts-exactly}
 use Rattle.claims.proofs.Impostors.{refuted}
 use Rattle.claims.proofs.OwnPlaces.{own-places}
-use Rattle.claims.proofs.Step.{step-meaning}
+use Rattle.claims.proofs.Steps.{steps}
+use Rattle.claims.proofs.Ages.{ages-add}
 use Rattle.claims.proofs.Resumes.{resumes}
 use Rattle.claims.proofs.Comparing.{compares, compares-settled, comparisons-refuted, clauses-independent, compare-samples-hold}
 
@@ -67,10 +69,11 @@ pub record Claims (s : Server) : Type 0 where
   pub ticking : Ticking s
   -- 5: demand 3, over every list of makings, datagrams and ticks on one table
   pub demand3 : Demand3 s
-  -- 6: document 01's samples, W1 to W10, those of the clock moved, of a response's span and of names compared, which no other fold meets, and W11 with the
-  -- table's bytes
+  -- 6: document 01's samples, W1 to W10, those of the clock moved, with weeks of ten bits and of thirteen, of a response's span and of names compared,
+  -- which no other fold meets, and W11 with the table's bytes
   pub samples : Samples
-  pub clockSamples : ClockSamples advance × ClockSamples byTally
+  pub clockSamples : ClockSamples (advance (cycleOf tenBit)) × ClockSamples (byTally 619315200)
+  pub wideSamples : WideSamples (step (cycleOf thirteenBit)) (advance (cycleOf thirteenBit)) × WideSamples (stepByTally 4954521600) (byTally 4954521600)
   pub spanSamples : SpanSamples
   pub nameSamples : NameSamples question
   pub foldSettled : FoldSettled
@@ -95,8 +98,10 @@ pub record Claims (s : Server) : Type 0 where
   pub sound : SoundExactly
   -- a stored name is a wire name of the list's length with no byte A to Z in its labels
   pub storedNames : StoredNames
-  -- the step is the one integer of its range that is the places' difference and whole cycles
-  pub step : StepMeaning
+  -- the step is the one integer of its range that is the places' difference and whole cycles, whatever even number of seconds the cycle has
+  pub steps : Steps
+  -- an age grows by a step as a whole number, in every cycle half of which and the longest lease are at most 2^32
+  pub ages : Ages
   -- a clock that was set back runs on from there
   pub resumes : Resumes advance
   -- two names are compared lengths first, to the first pair that differs, and the pairs looked at are counted; nothing else meets that, six wrong
@@ -115,7 +120,7 @@ pub record Claims (s : Server) : Type 0 where
   -- a call's numbers and bytes are settled, and so are the public contracts
   pub calls : CallsExactly s
   pub contracts : ContractsExactly
-  -- twenty-six wrong servers break a claim each
+  -- thirty wrong servers break a claim each
   pub refuted : Refuted
   -- one of them passes what `LiveAge` says by the places that a table holds
   pub ownPlaces : OwnPlaces
@@ -131,6 +136,7 @@ claims =
       demand3 = demand3;
       samples = samples-hold;
       clockSamples = clock-samples-hold;
+      wideSamples = wide-samples-hold;
       spanSamples = span-samples-hold;
       nameSamples = name-samples-hold;
       foldSettled = fold-settled;
@@ -146,7 +152,8 @@ claims =
       numbers = granted-numbers;
       sound = sound-exactly;
       storedNames = stored-names;
-      step = step-meaning;
+      steps = steps;
+      ages = ages-add;
       resumes = resumes;
       comparing = compares;
       comparesSettled = compares-settled;

@@ -5,7 +5,7 @@ use Rattle.model.specs.Numbers.{encode, bytesOf, bigEndian, part}
 use Rattle.model.specs.Names.{fold, nameSize, lowerName}
 use Rattle.model.specs.Clock.{step, brought, advance}
 use Rattle.model.specs.Query.{goodHeader, nameAt, goodQuestion, questionAt, questionStart, goodQuestions, goodOption, optionAt, optionsFill, optionsFrom, goodOpt, llqOptions, llqAt, matched}
-use Rattle.model.specs.Table.{tableBytes, clockBytes, rosterBytes, lineBytes, unusedLine, slotBytes, readTable, readSlot, readEntry, readLine, listed}
+use Rattle.model.specs.Table.{tableBytes, clockBytes, rosterBytes, lineBytes, unusedLine, slotBytes, layoutOf, readTable, readSlot, readEntry, readLine, listed}
 use Rattle.model.specs.Rules.{entriesOf, limitOf, shareOf, reserve, shares, full, freshNumber}
 use Rattle.model.specs.Sound.{soundTable, soundRoster, soundHoldings, soundBytes}
 use Rattle.model.specs.Serve.{slotRunOut, movedOn, has, findEntry, kindOfOption, onSetup, serveSetup, onResponse, serveResponse, onRefresh, serveRefresh, serveKind}
@@ -35,7 +35,7 @@ unfolding goodHeader nameAt goodQuestion questionAt questionStart goodQuestions 
 query-definitions = Unit {0}
 
 table-definitions : Type 0
-unfolding tableBytes clockBytes rosterBytes lineBytes unusedLine slotBytes readTable readSlot readEntry readLine listed
+unfolding tableBytes clockBytes rosterBytes lineBytes unusedLine slotBytes layoutOf readTable readSlot readEntry readLine listed
 table-definitions = Unit {0}
 
 rule-definitions : Type 0

@@ -8,17 +8,19 @@ use mathlib.Core.Logic.{inl, inr, ⊎-elim}
 use lib.ListN.{length, getD, drop, length-append}
 use lib.IntN.{ℤ, pos, negsuc}
 use lib.Dec.{eqb, leb, lit<}
+use borrow.Author.Tests.{lt-ltb}
 use Rattle.model.specs.Lists.{any, every, upTo, count, same}
 use Rattle.model.specs.Numbers.{Bytes, part}
 use Rattle.model.specs.Names.{fold}
-use Rattle.model.specs.Clock.{Clock, slack, moved}
+use Rattle.model.specs.Clock.{Clock, tenBit, thirteenBit, cycleOf, step, slack, moved, advance}
 use Rattle.model.specs.Query.{Question, LlqOption, nameAt, questionAt, questionStart, question, llqOption, qdcount, matched}
-use Rattle.model.specs.Table.{Entry, Slot, free, held, Table, tableBytes, readTable}
+use Rattle.model.specs.Table.{Entry, Slot, free, held, Table, cycleIn, tableBytes, readTable}
 use Rattle.model.specs.Rules.{Holding, holdings}
-use Rattle.model.specs.Serve.{Sender, Kind, badVersion, badFormat, setup, response, refresh, findEntry, slotOf, establish, answers, onSetup, onResponse, serveResponse, serveKind, serveOption}
+use Rattle.model.specs.Serve.{Sender, Kind, badVersion, badFormat, setup, response, refresh, withClock, freeRunOut, movedOn, findEntry, slotOf, establish, answers, onSetup, onResponse, serveResponse, serveKind, serveOption}
 use Rattle.model.specs.Reply.{replyBytes, replyLength, mismatch}
-use Rattle.model.specs.Calls.{TickCall, ServeCall, servedBy, serveRefusal, tableBefore, outcomeOf, tableAfter, outcomes, serve}
-use Rattle.model.proofs.Meaning.{read-stored}
+use Rattle.model.specs.Calls.{TickCall, ServeCall, Made, servedBy, serveRefusal, tableBefore, outcomeOf, tableAfter, outcomes, make, serve}
+use Rattle.model.specs.Sound.{soundBytes}
+use Rattle.model.proofs.Meaning.{read-stored, means-sound}
 use Rattle.model.proofs.ListLaws.{never, getD-upTo}
 use Rattle.model.proofs.NumberLaws.{bytes-part}
 use Rattle.model.proofs.HoldingLaws.{not-held}
@@ -33,12 +35,13 @@ use Rattle.claims.specs.Reply.{ReplyClaim}
 use Rattle.claims.specs.LiveAge.{AnsweredDatagram, addedAlong, tallyAlong, Summed}
 use Rattle.claims.specs.Repeats.{ToldLeases}
 use Rattle.claims.specs.Resumes.{Resumes}
-use Rattle.claims.specs.Samples.{ClockSamples, NameSamples}
+use Rattle.claims.specs.Samples.{ClockSamples, WideSamples, NameSamples}
+use Rattle.claims.specs.Pins.{Pinned}
 use Rattle.claims.specs.CallBuilders.{makeAt, tickAt}
-use Rattle.claims.specs.Impostors.{right, serverOf, serveWith, tableWith, byKind, onFound, refusesAll, constantReply, saysFull, leavesTable, copiesFirst, inventsFreed, grantsUnstored, comparesSum, dropsPending, grantsIfFree, countsByPort, findsByNumber, repeatsGranted, restampsOnRepeat, grantedOnly, anyUpToGranted, openBelow, sentLessAge, onBack, moveBack, stands, setTo, freezes, keepsAlways, waitsFor61, countsBack, endsOnSetBack, foldEntries, readThrough, readUnfoldedZ, zUnfolded, readFoldedBracket, bracketFolded, readFoldedLatin, latinFolded, Refuted}
+use Rattle.claims.specs.Impostors.{right, serverOf, serveWith, tableWith, byKind, onFound, refusesAll, constantReply, saysFull, leavesTable, copiesFirst, inventsFreed, grantsUnstored, comparesSum, dropsPending, grantsIfFree, countsByPort, findsByNumber, repeatsGranted, restampsOnRepeat, grantedOnly, anyUpToGranted, openBelow, sentLessAge, onBack, moveBack, stands, setTo, freezes, keepsAlways, waitsFor61, countsBack, endsOnSetBack, foldEntries, readThrough, readUnfoldedZ, zUnfolded, readFoldedBracket, bracketFolded, readFoldedLatin, latinFolded, tenBitCycle, withSign, moveSigned, signedStep, takesWideWeek, makesTenBit, Refuted}
 use Rattle.claims.proofs.Demand3.Permutations.{perm-alike}
 use Rattle.claims.proofs.Definitions.{all-definitions}
-use Rattle.claims.proofs.CallBuilders.{areBytes, bytes-by-test, sound-by-test, askingByte, asking, askingTwo, rosterOf, fromAt, from, make-in-range, tick-at-in-range, tick-in-range, from-at-in-range, from-in-range, tableBuffer, replyBuffer, freshBytes, along-calls, since-stamp}
+use Rattle.claims.proofs.CallBuilders.{areBytes, bytes-by-test, sound-by-test, askingByte, asking, askingTwo, rosterOf, fromAt, from, make-in-range, tick-at-in-range, tick-in-range, from-at-in-range, from-in-range, tableBuffer, wideBuffer, replyBuffer, freshBytes, from-making, along-calls, since-stamp}
 use Rattle.claims.proofs.LiveAge.SlotSteps.{same-self}
 
 -- of the entries that agree with a tally as many pass a test
@@ -66,7 +69,7 @@ refuses-all : Refusals refusesAll → ⊥
 unfolding every
 refuses-all r =
     ⊎-elim
-    (λ h. h .0 1 (omega arith) (omega arith) refl)
+    (λ h. h .0 1 (omega arith) (omega arith) .0 refl)
     (λ h.
     ⊎-elim
     (λ g. reading (g .0))
@@ -74,7 +77,7 @@ refuses-all r =
     (h .1))
     (r .makeNumber (makeAt 0 0 []) (tableBuffer 1) (make-in-range [] refl) (bytes-by-test (tableBuffer 1) refl))
   where
-    reading : ReadingFault 0 0 → ⊥
+    reading : ReadingFault 1023 0 0 → ⊥
     reading (weekTooLarge h) = omega arith
     reading (secondTooLarge h) = omega arith
 
@@ -82,7 +85,7 @@ refuses-all r =
 constant-reply : ReplyClaim constantReply → ⊥
 unfolding all-definitions
 constant-reply r =
-    let b = freshBytes constantReply 1 [] in
+    let b = freshBytes constantReply (tableBuffer 1) [] in
     let z : _≡_ {A = ℕ} 0x12 0 = r b (replyBuffer stranger) stranger (sound-by-test b refl refl) stranger-in-range refl refl .number0 in
     absurd (omega arith)
 
@@ -90,7 +93,7 @@ constant-reply r =
 says-full : Demand3 saysFull → ⊥
 unfolding all-definitions
 says-full d =
-    let h = along-calls saysFull 1 [] d refl refl (serving stranger ∷ []) (stranger-in-range, tt) .0 in
+    let h = along-calls saysFull (tableBuffer 1) [] d refl refl (serving stranger ∷ []) (stranger-in-range, tt) .0 in
     let o = h .replied refl .options refl 0 (lit< tt) in
     ⊎-elim (λ h. absurd (omega (arith, h))) (λ h. absurd (omega (arith, h .1))) (o .fullExactly .0 refl .1)
 
@@ -98,14 +101,14 @@ says-full d =
 leaves-table : Demand3 leavesTable → ⊥
 unfolding all-definitions
 leaves-table d =
-    let h = along-calls leavesTable 1 [] d refl refl (serving stranger ∷ []) (stranger-in-range, tt) .0 in
+    let h = along-calls leavesTable (tableBuffer 1) [] d refl refl (serving stranger ∷ []) (stranger-in-range, tt) .0 in
     let z : _≡_ {A = ℕ} 0 1 = as-many _ _ (h .agrees) in
     absurd (omega arith)
 
 grants-unstored : Demand3 grantsUnstored → ⊥
 unfolding all-definitions
 grants-unstored d =
-    let h = along-calls grantsUnstored 1 [] d refl refl (serving stranger ∷ []) (stranger-in-range, tt) .0 in
+    let h = along-calls grantsUnstored (tableBuffer 1) [] d refl refl (serving stranger ∷ []) (stranger-in-range, tt) .0 in
     let z : _≡_ {A = ℕ} 0 1 = as-many _ _ (h .agrees) in
     absurd (omega arith)
 
@@ -113,7 +116,7 @@ grants-unstored d =
 copies-first : Demand3 copiesFirst → ⊥
 unfolding all-definitions
 copies-first d =
-    let h = along-calls copiesFirst 1 [] d refl refl (serving (from 9 1 askingTwo) ∷ []) (from-in-range 9 1 askingTwo (lit< tt) (lit< tt) refl, tt) .0 in
+    let h = along-calls copiesFirst (tableBuffer 1) [] d refl refl (serving (from 9 1 askingTwo) ∷ []) (from-in-range 9 1 askingTwo (lit< tt) (lit< tt) refl, tt) .0 in
     let z : _≡_ {A = ℕ} 0 5 = h .replied refl .options refl 1 (lit< tt) .error in
     absurd (omega arith)
 
@@ -121,7 +124,7 @@ copies-first d =
 grants-if-free : Demand3 grantsIfFree → ⊥
 unfolding all-definitions
 grants-if-free d =
-    let h = along-calls grantsIfFree 1 (rosterOf 7 1 1) d refl refl (serving stranger ∷ []) (stranger-in-range, tt) .0 in
+    let h = along-calls grantsIfFree (tableBuffer 1) (rosterOf 7 1 1) d refl refl (serving stranger ∷ []) (stranger-in-range, tt) .0 in
     let o = h .replied refl .options refl 0 (lit< tt) in
     let z : _≡_ {A = ℕ} 0 1 = o .fullExactly .1 (record { setup = refl; unheld = refl }, inr (omega arith, omega arith)) in
     absurd (omega arith)
@@ -131,7 +134,7 @@ counts-by-port : Demand3 countsByPort → ⊥
 unfolding all-definitions
 counts-by-port d =
     let q = asking 0 3600 in
-    let h = along-calls countsByPort 2 (rosterOf 7 0 1) d refl refl (serving (from 7 1 q) ∷ serving (from 7 2 q) ∷ [])
+    let h = along-calls countsByPort (tableBuffer 2) (rosterOf 7 0 1) d refl refl (serving (from 7 1 q) ∷ serving (from 7 2 q) ∷ [])
     (from-in-range 7 1 q (lit< tt) (lit< tt) refl, (from-in-range 7 2 q (lit< tt) (lit< tt) refl, tt)) .1 .0 in
     let o = h .replied refl .options refl 0 (lit< tt) in
     let z : _≡_ {A = ℕ} 0 1 = o .fullExactly .1 (record { setup = refl; unheld = refl }, inl (omega arith)) in
@@ -145,7 +148,7 @@ onlyEntry established lease stamp =
     record { established = established; address = 5; port = 1; number = 7; lease = lease; stamp = stamp; qtype = 12; qclass = 1; name = 1 ∷ 97 ∷ 0 ∷ [] }
 
 abbrev onlyTable : ℕ → Entry → Table
-onlyTable running e = record { clock = record { place = 0; running = running }; roster = []; slots = held e ∷ [] }
+onlyTable running e = record { layout = record { weeks = tenBit }; clock = record { place = 0; running = running }; roster = []; slots = held e ∷ [] }
 
 -- a pending entry is not itself established
 slotState : Slot → Bool
@@ -160,7 +163,7 @@ not-established e b g = never {b = true} refl (ap slotState g ∙ b)
 invents-freed : Ticking inventsFreed → ⊥
 unfolding all-definitions
 invents-freed k =
-    let b = freshBytes inventsFreed 1 [] in
+    let b = freshBytes inventsFreed (tableBuffer 1) [] in
     let z : 1 + 0 + 0 ≡ 0 = k (tickAt 0 0) b tick-in-range (sound-by-test b refl refl) refl .count in
     absurd (omega arith)
 
@@ -205,7 +208,7 @@ again-in-range = from-at-in-range 40 9 1 (asking 0 3600) (lit< tt) (lit< tt) (li
 repeats-granted : Demand3 repeatsGranted → ⊥
 unfolding all-definitions again
 repeats-granted d =
-    let h = along-calls repeatsGranted 1 [] d refl refl (serving stranger ∷ serving again ∷ []) (stranger-in-range, (again-in-range, tt)) .1 .0 in
+    let h = along-calls repeatsGranted (tableBuffer 1) [] d refl refl (serving stranger ∷ serving again ∷ []) (stranger-in-range, (again-in-range, tt)) .1 .0 in
     let z : _≡_ {A = ℕ} 3600 3560 = h .replied refl .options refl 0 (lit< tt) .lease in
     absurd (omega arith)
 
@@ -213,7 +216,7 @@ repeats-granted d =
 restamps-on-repeat : Demand3 restampsOnRepeat → ⊥
 unfolding all-definitions again
 restamps-on-repeat d =
-    let h = along-calls restampsOnRepeat 1 [] d refl refl (serving stranger ∷ serving again ∷ []) (stranger-in-range, (again-in-range, tt)) .1 .0 in
+    let h = along-calls restampsOnRepeat (tableBuffer 1) [] d refl refl (serving stranger ∷ serving again ∷ []) (stranger-in-range, (again-in-range, tt)) .1 .0 in
     let z : _≡_ {A = ℕ} 0 1 = as-many-by (λ h. eqb (h .age) 40) _ _ (h .agrees) in
     absurd (omega arith)
 
@@ -222,7 +225,7 @@ sent-less-age : Demand3 sentLessAge → ⊥
 unfolding all-definitions
 sent-less-age d =
     let c = fromAt 45 9 1 (asking 7 3560) in
-    let h = along-calls sentLessAge 1 [] d refl refl (serving stranger ∷ serving c ∷ [])
+    let h = along-calls sentLessAge (tableBuffer 1) [] d refl refl (serving stranger ∷ serving c ∷ [])
     (stranger-in-range, (from-at-in-range 45 9 1 (asking 7 3560) (lit< tt) (lit< tt) (lit< tt) refl, tt)) .1 .0 in
     let z : _≡_ {A = ℕ} 3515 3555 = h .replied refl .options refl 0 (lit< tt) .lease in
     absurd (omega arith)
@@ -282,13 +285,20 @@ any-up-to-granted k =
 
 -- ---- THE CLOCK
 
--- a table made at the first second, and a tick k seconds before it, around the end of the cycle: the place that a tick leaves is the tally's
-placed-after : (s : Server) → Demand3 s → (k : ℕ) → 604800 - k < 2 ^ 32 → 0 ≡ s .make (makeAt 0 0 []) (tableBuffer 1) .number
-    → Agrees (s .tick (tickAt 1023 (604800 - k)) (freshBytes s 1 []) .table)
-    (tallyAfter (length (tableBuffer 1)) (beginTally (length (tableBuffer 1)) (makeAt 0 0 [])) (ticking (tickAt 1023 (604800 - k))))
+-- a table made at the first second in a buffer, and a tick: what it leaves agrees with the tally
+ticked-after : (s : Server) (buffer : List ℕ) → Demand3 s → (week second : ℕ) → week < 2 ^ 32 → second < 2 ^ 32
+    → 0 ≡ s .make (makeAt 0 0 []) buffer .number
+    → Agrees (s .tick (tickAt week second) (freshBytes s buffer []) .table)
+    (tallyAfter (length buffer) (beginTally (length buffer) (makeAt 0 0 [])) (ticking (tickAt week second)))
 unfolding every
-placed-after s d k h made =
-    along-calls s 1 [] d refl made (ticking (tickAt 1023 (604800 - k)) ∷ []) (tick-at-in-range 1023 (604800 - k) (lit< tt) h, tt) .0 .agrees
+ticked-after s buffer d week second hw hs made =
+    along-calls s buffer [] d refl made (ticking (tickAt week second) ∷ []) (tick-at-in-range week second hw hs, tt) .0 .agrees
+
+-- k seconds before the first, around the end of the cycle: the place that the tick leaves is the tally's
+placed-after : (s : Server) → Demand3 s → (k : ℕ) → 604800 - k < 2 ^ 32 → 0 ≡ s .make (makeAt 0 0 []) (tableBuffer 1) .number
+    → Agrees (s .tick (tickAt 1023 (604800 - k)) (freshBytes s (tableBuffer 1) []) .table)
+    (tallyAfter (length (tableBuffer 1)) (beginTally (length (tableBuffer 1)) (makeAt 0 0 [])) (ticking (tickAt 1023 (604800 - k))))
+placed-after s d k h made = ticked-after s (tableBuffer 1) d 1023 (604800 - k) (lit< tt) h made
 
 place-read : (b : List ℕ) (y : Tally) → Agrees b y → readTable b .clock .place ≡ y .place
 place-read b y g = ap (λ (t : Table). t .clock .place) (read-stored b (g .stored)) ∙ g .place
@@ -346,7 +356,7 @@ unfolding all-definitions backAndForth strangersEntry
 keeps-always-age k =
     let size = length (tableBuffer 1) in
     let y = beginTally size (makeAt 0 0 []) in
-    let since = since-stamp keepsAlways 1 [] k refl refl backAndForth
+    let since = since-stamp keepsAlways (tableBuffer 1) [] k refl refl backAndForth
     (stranger-in-range, (tick-at-in-range 1023 604740 (lit< tt) (lit< tt), (tick-in-range, tt))) 0 strangersEntry refl in
     let only = only-first _ _ _ _ _ _ _ _ _ (since .earlier) (since .rest) (since .stamping) (since .split) (since .answered) in
     let z : _≡_ {A = ℕ} 60 0 =
@@ -360,7 +370,7 @@ abbrev agedEntry : Entry
 agedEntry = onlyEntry false 3600 0
 
 abbrev agedBytes : List ℕ
-agedBytes = tableBytes (record { clock = record { place = 100; running = 140 }; roster = []; slots = held agedEntry ∷ [] })
+agedBytes = tableBytes (record { layout = record { weeks = tenBit }; clock = record { place = 100; running = 140 }; roster = []; slots = held agedEntry ∷ [] })
 
 -- what the claim says of it
 ticked-back : (s : Server) → Ticking s → s .tick (tickAt 0 30) agedBytes .number ≡ 0
@@ -402,7 +412,7 @@ stands-still : Resumes (moveBack stands) → ⊥
 unfolding all-definitions
 stands-still r =
     let z : _≡_ {A = ℕ} 7 17 =
-    ap (λ (c : Clock). c .running) (r .setBack (record { place = 100; running = 7 }) 0 10 (lit< tt) (lit< tt) (lit< tt) (lit< tt) (omega arith) (omega arith)) in
+    ap (λ (c : Clock). c .running) (r .setBack (cycleOf tenBit) (record { place = 100; running = 7 }) 0 10 refl (lit< tt) (lit< tt) (lit< tt) (lit< tt) (omega arith) (omega arith)) in
     absurd (omega arith)
 
 -- back by 60 seconds and on: the count is 7 still
@@ -410,15 +420,15 @@ keeps-little : Resumes (moveBack setTo) → ⊥
 unfolding all-definitions
 keeps-little r =
     let z : _≡_ {A = ℕ} 67 7 =
-    ap (λ (c : Clock). c .running) (r .wentBack (record { place = 100; running = 7 }) 40 60 60 (lit< tt) (lit< tt) (lit< tt) (lit< tt) refl (omega arith) (omega arith) (omega arith)) in
+    ap (λ (c : Clock). c .running) (r .wentBack (cycleOf tenBit) (record { place = 100; running = 7 }) 40 60 60 refl (lit< tt) (lit< tt) (lit< tt) (lit< tt) refl (omega arith) (omega arith) (omega arith)) in
     absurd (omega arith)
 
 -- the samples of 61 seconds back, and of 1
-stands-sample : ClockSamples (moveBack stands) → ⊥
+stands-sample : ClockSamples (moveBack stands (cycleOf tenBit)) → ⊥
 unfolding all-definitions
 stands-sample r = let z : _≡_ {A = ℕ} 1000 939 = ap (λ (c : Clock). c .place) (r .1 .1 .1 .0) in absurd (omega arith)
 
-keeps-sample : ClockSamples (moveBack setTo) → ⊥
+keeps-sample : ClockSamples (moveBack setTo (cycleOf tenBit)) → ⊥
 unfolding all-definitions
 keeps-sample r = let z : _≡_ {A = ℕ} 999 1000 = ap (λ (c : Clock). c .place) (r .1 .0) in absurd (omega arith)
 
@@ -427,12 +437,12 @@ keeps-sample r = let z : _≡_ {A = ℕ} 999 1000 = ap (λ (c : Clock). c .place
 -- after a stranger's setup as many of the table's entries have a name as of the tally's
 names-after : (s : Server) → Demand3 s → (byte : ℕ) → areBytes (askingByte byte 0 3600) → 0 ≡ s .make (makeAt 0 0 []) (tableBuffer 1) .number
     → (name : List ℕ)
-    → count (holdings (readTable (s .serve (strangersSetup byte) (freshBytes s 1 []) (replyBuffer (strangersSetup byte)) .table))) (λ h. same (h .name) name)
+    → count (holdings (readTable (s .serve (strangersSetup byte) (freshBytes s (tableBuffer 1) []) (replyBuffer (strangersSetup byte)) .table))) (λ h. same (h .name) name)
     ≡ count (tallyAfter (length (tableBuffer 1)) (beginTally (length (tableBuffer 1)) (makeAt 0 0 [])) (serving (strangersSetup byte)) .holdings) (λ h. same (h .name) name)
 unfolding every
 names-after s d byte bytes made name =
     as-many-by (λ h. same (h .name) name) _ _
-    (along-calls s 1 [] d refl made (serving (strangersSetup byte) ∷ []) (from-in-range 9 1 (askingByte byte 0 3600) (lit< tt) (lit< tt) bytes, tt) .0 .agrees)
+    (along-calls s (tableBuffer 1) [] d refl made (serving (strangersSetup byte) ∷ []) (from-in-range 9 1 (askingByte byte 0 3600) (lit< tt) (lit< tt) bytes, tt) .0 .agrees)
 
 -- the tally has z for Z
 z-unfolded : Demand3 zUnfolded → ⊥
@@ -461,7 +471,75 @@ latin-sample : NameSamples readFoldedLatin → ⊥
 unfolding all-definitions
 latin-sample r = never {b = true} refl (r .2 .2 .0)
 
--- ---- ALL TWENTY-SIX
+-- ---- THE TWO WIDTHS OF THE WEEK
+
+running-read : (b : List ℕ) (y : Tally) → Agrees b y → readTable b .clock .running ≡ y .running
+running-read b y g = ap (λ (t : Table). t .clock .running) (read-stored b (g .stored)) ∙ g .running
+
+-- half a ten-bit cycle on, which is no step back around the thirteen-bit one: the tally counts it
+ten-bit-count : Demand3 tenBitCycle → ⊥
+unfolding all-definitions
+ten-bit-count d =
+    let z : _≡_ {A = ℕ} 0 309657600 = running-read _ _ (ticked-after tenBitCycle (wideBuffer 1) d 512 0 (lit< tt) (lit< tt) refl) in
+    absurd (omega arith)
+
+-- 30 seconds less than a ten-bit cycle on, which is no small step back: the place is the new one
+pub ten-bit-stays : Demand3 tenBitCycle → ⊥
+unfolding all-definitions
+ten-bit-stays d =
+    let z : _≡_ {A = ℕ} 0 619315170 = place-read _ _ (ticked-after tenBitCycle (wideBuffer 1) d 1023 604770 (lit< tt) (lit< tt) refl) in
+    absurd (omega arith)
+
+ten-bit-place : Ticking tenBitCycle → ⊥
+unfolding all-definitions
+ten-bit-place k =
+    let b = freshBytes tenBitCycle (wideBuffer 1) [] in
+    let z : _≡_ {A = ℕ} 0 619315170 =
+    ap (λ (c : Clock). c .place)
+    (k (tickAt 1023 604770) b (tick-at-in-range 1023 604770 (lit< tt) (lit< tt)) (sound-by-test b refl refl) refl .moved .clock) in
+    absurd (omega arith)
+
+-- a setup and a tick 2^31 seconds later: the entry has run out, and it is still there
+signed-step : Demand3 signedStep → ⊥
+unfolding all-definitions
+signed-step d =
+    let h = along-calls signedStep (wideBuffer 1) [] d refl refl (serving stranger ∷ ticking (tickAt 3550 443648) ∷ [])
+    (stranger-in-range, (tick-at-in-range 3550 443648 (lit< tt) (lit< tt), tt)) .1 .0 in
+    let z : _≡_ {A = ℕ} 1 0 = as-many _ _ (h .agrees) in
+    absurd (omega arith)
+
+-- week 1,024 on a ten-bit table is refusal 2, and it is done
+takes-wide-week : Refusals takesWideWeek → ⊥
+unfolding all-definitions
+takes-wide-week r =
+    let b = freshBytes takesWideWeek (tableBuffer 1) [] in
+    ⊎-elim
+    (λ h. h .0 (sound-by-test b refl refl))
+    (λ h. ⊎-elim (λ g. absurd (omega (arith, g .1))) (λ g. g .0 (weekTooLarge (lit< tt))) (h .1))
+    (r .tickNumber (tickAt 1024 0) b (tick-at-in-range 1024 0 (lit< tt) (lit< tt)) (bytes-by-test b refl))
+
+-- a record of kind 1 in 637 bytes is no sound table's
+makes-ten-bit : Demand3 makesTenBit → ⊥
+unfolding all-definitions
+makes-ten-bit d =
+    let b = freshBytes makesTenBit (wideBuffer 1) [] in
+    never {b = soundBytes b} (means-sound b (from-making makesTenBit (wideBuffer 1) [] d refl refl [] tt .0 .stored)) refl
+
+-- nor the one written out
+makes-ten-bit-pin : Pinned makesTenBit → ⊥
+unfolding all-definitions
+makes-ten-bit-pin p = let z : _≡_ {A = ℕ} 1 9 = ap (λ (m : Made). getD (m .table) 0 0) (p .wideMade) in absurd (omega arith)
+
+-- the samples around the end of the cycle, and of 2^31
+ten-bit-sample : WideSamples (step (cycleOf tenBit)) (advance (cycleOf tenBit)) → ⊥
+unfolding all-definitions
+ten-bit-sample r = let z : _≡_ {A = ℕ} 7 8 = ap (λ (c : Clock). c .running) (r .1) in absurd (omega arith)
+
+signed-sample : WideSamples (λ from to. withSign (step (cycleOf thirteenBit) from to)) (moveSigned (cycleOf thirteenBit)) → ⊥
+unfolding all-definitions
+signed-sample r = let z : _≡_ {A = ℕ} 7 2147483655 = ap (λ (c : Clock). c .running) (r .2 .2 .2 .1) in absurd (omega arith)
+
+-- ---- ALL THIRTY
 
 pub refuted : Refuted
 refuted =
@@ -492,8 +570,13 @@ refuted =
       zUnfolded = z-unfolded;
       bracketFolded = bracket-folded;
       latinFolded = latin-folded;
+      tenBitCycle = (ten-bit-count, ten-bit-place);
+      signedStep = signed-step;
+      takesWideWeek = takes-wide-week;
+      makesTenBit = (makes-ten-bit, makes-ten-bit-pin);
       resumes = (stands-still, keeps-little);
       clockSamples = (stands-sample, keeps-sample);
+      wideSamples = (ten-bit-sample, signed-sample);
       nameSamples = (z-sample, bracket-sample, latin-sample);
     }
 
@@ -542,10 +625,24 @@ through-right d i h =
     ap (λ (l : List ℕ). record { name = l; qtype = question d i .qtype; qclass = question d i .qclass })
     (through (part at (nameAt d at) d) (bytes-part at (nameAt d at) d h))
 
+-- with the model's way to move the clock, a table is moved on as the model's
+pub move-right : (t : Table) (place : ℕ) → freeRunOut (withClock t (advance (cycleIn t) (t .clock) place)) ≡ movedOn t place
+unfolding movedOn
+move-right t place = refl
+
 -- with the model's rule for a step back, the clock moves as the model's
 pub back-right : (c : Clock) (to : ℕ) (z : ℤ) → onBack (λ c to k. cond (leb k slack) (stands c to k) (setTo c to k)) c to z ≡ moved c to z
 back-right c to (pos n) = refl
 back-right c to (negsuc n) = refl
+
+-- a step under 2^31 seconds has its sign
+pub sign-right : (n : ℕ) → n < 2147483648 → withSign (pos n) ≡ pos n
+sign-right n h = rw (lt-ltb n 2147483648 h)
+
+-- in a ten-bit buffer the ten-bit layout is the model's
+pub ten-bit-right : makesTenBit .make (makeAt 0 0 []) (tableBuffer 1) ≡ make (makeAt 0 0 []) (tableBuffer 1)
+unfolding all-definitions
+ten-bit-right = refl
 
 -- with the model's test and the model's answer, a response is the model's, and a setup is with the model's challenge of an entry that is there
 pub response-right : (k : Kind) (s : Sender) (r : ℕ) (q : Question) (o : LlqOption) (t : Table)

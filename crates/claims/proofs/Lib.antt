@@ -1,3 +1,5 @@
+pub mod LengthLaws
+pub mod CycleLaws
 pub mod AcceptedCalls
 pub mod RosterGiven
 pub mod Relation
@@ -26,7 +28,8 @@ pub mod SoundRules
 pub mod TableLayout
 pub mod OneSlot
 pub mod Contracts
-pub mod Step
+pub mod Steps
+pub mod Ages
 pub mod Resumes
 pub mod Comparing
 pub mod Claims

@@ -16,25 +16,26 @@ use Rattle.model.specs.Calls.{Made, makeRefusal, madeBy}
 use Rattle.model.specs.Meets.{model}
 use Rattle.model.proofs.ClockLaws.{fresh-age}
 use Rattle.model.proofs.CallLaws.{make-number, make-answered}
+use Rattle.claims.specs.Lengths.{cycleFor}
 use Rattle.claims.specs.Tally.{Tally, passed, judged, beginTally, tallyAfter}
 use Rattle.claims.specs.Events.{Event, made, ticked, served, callOf, numberOf, tableOf, Trace, AllInRange}
 use Rattle.claims.specs.LiveAge.{stepIn, stepsAlong, leftBy, Stamped, StampedAlong, ageIn, addedBy, addedAlong, SameStamp, SameStampAlong, AnsweredDatagram, Since, Summed, LiveAge}
 use Rattle.claims.proofs.Demand3.CallSteps.{Invariant, make-kept, kept-step, number-step}
-use Rattle.claims.proofs.LiveAge.AgeSteps.{read-place, some-held, ages-along, grows, since-stamped, younger, sound-along}
+use Rattle.claims.proofs.LiveAge.AgeSteps.{read-place, read-cycle, some-held, ages-along, grows, since-stamped, younger, sound-along}
 use Rattle.claims.proofs.LiveAge.SlotSteps.{same-self, same-through, call-step}
 
 -- BY THE CALLS ALONE: a call adds what the places of the table say
-added-is : (size : ℕ) (y : Tally) (e : Event) → numberOf e ≡ judged size (callOf e) → stepIn (y .place) e ≡ addedBy size y (callOf e)
+added-is : (size : ℕ) (y : Tally) (e : Event) → numberOf e ≡ judged size (callOf e) → stepIn (y .cycle) (y .place) e ≡ addedBy size y (callOf e)
 added-is size y (made c k after) n = refl
-added-is size y (ticked c k freed after) n = ap (λ (z : ℕ). cond (eqb z 0) (passed (y .place) (c .week * 604800 + c .second)) 0) n
-added-is size y (served c lent k m after left) n = ap (λ (z : ℕ). cond (eqb z 0) (passed (y .place) (c .week * 604800 + c .second)) 0) n
+added-is size y (ticked c k freed after) n = ap (λ (z : ℕ). cond (eqb z 0) (passed (y .cycle) (y .place) (c .week * 604800 + c .second)) 0) n
+added-is size y (served c lent k m after left) n = ap (λ (z : ℕ). cond (eqb z 0) (passed (y .cycle) (y .place) (c .week * 604800 + c .second)) 0) n
 
 steps-added : (size : ℕ) (b : List ℕ) (y : Tally) (es : List Event) → AllInRange es → Invariant size b y → Trace model b es
     → stepsAlong b es ≡ addedAlong size y (map callOf es)
 steps-added size b y [] ranges x h = refl
 steps-added size b y (e ∷ es) ranges x h =
-    let one : stepIn (readTable b .clock .place) e ≡ addedBy size y (callOf e) =
-    ap (λ (z : ℕ). stepIn z e) (read-place x) ∙ added-is size y e (number-step size b y e x (h .0)) in
+    let one : stepIn (cycleFor (length b)) (readTable b .clock .place) e ≡ addedBy size y (callOf e) =
+    ap (λ (z : ℕ). stepIn z (readTable b .clock .place) e) (read-cycle x) ∙ ap (λ (z : ℕ). stepIn (y .cycle) z e) (read-place x) ∙ added-is size y e (number-step size b y e x (h .0)) in
     let more = steps-added size (tableOf e) (tallyAfter size y (callOf e)) es (ranges .1) (kept-step size b y e (ranges .0) x (h .0)) (h .1) in
     omega (arith, one, more)
 

@@ -11,6 +11,7 @@ one-slot =
       read = λ t j. refl;
       written = λ t j s h.
           record {
+            layout = refl;
             clock = refl;
             roster = refl;
             size = length-set (t .slots) j s;

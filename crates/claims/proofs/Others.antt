@@ -10,7 +10,7 @@ use lib.Dec.{eqb, leb}
 use borrow.Author.Tests.{eqb-true, eqb-false, leb-true, leb-false}
 use Rattle.model.specs.Clock.{Clock, advance, ageAt}
 use Rattle.model.specs.Query.{Question, LlqOption, question, llqOption}
-use Rattle.model.specs.Table.{Entry, Slot, free, held, Table, readTable}
+use Rattle.model.specs.Table.{Entry, Slot, free, held, Table, cycleIn, readTable}
 use Rattle.model.specs.Serve.{Sender, slotOf, establish, withSlot}
 use Rattle.model.specs.Calls.{ServeCall, serve}
 use Rattle.model.specs.Meets.{model}
@@ -22,6 +22,7 @@ use Rattle.claims.proofs.Changes.{datagram-done, read-left}
 
 -- ONE OPTION: roster and size stay, and a slot is as before, or free or the sender's before and after
 record Step (s : Sender) (t u : Table) : Type 0 where
+  layout : u .layout ≡ t .layout
   roster : u .roster ≡ t .roster
   size : length (u .slots) ≡ length (t .slots)
   slots : (j : ℕ) → (slotOf u j ≡ slotOf t j) ⊎ (((slotOf t j ≡ free) ⊎ OfSender s (slotOf t j)) × ((slotOf u j ≡ free) ⊎ OfSender s (slotOf u j)))
@@ -35,6 +36,7 @@ written-step : (s : Sender) (t u : Table) (k : ℕ) (z : Slot) → k < length (t
     → (z ≡ free) ⊎ OfSender s z → Step s t u
 written-step s t u k z i hu was is =
     record {
+      layout = ap (λ (w : Table). w .layout) hu;
       roster = ap (λ (w : Table). w .roster) hu;
       size = ap (λ (w : Table). length (w .slots)) hu ∙ length-set (t .slots) k z;
       slots = λ j. go j (eqb j k) refl;
@@ -52,6 +54,7 @@ written-step s t u k z i hu was is =
 change-step : (s : Sender) (q : Question) (o : LlqOption) (t u : Table) → Change s q o t u → Step s t u
 change-step s q o t u (nothing hu) =
     record {
+      layout = ap (λ (w : Table). w .layout) hu;
       roster = ap (λ (w : Table). w .roster) hu;
       size = ap (λ (w : Table). length (w .slots)) hu;
       slots = λ j. inl (ap (λ (w : Table). slotOf w j) hu);
@@ -72,16 +75,17 @@ module _ (c : ServeCall) (before after : List ℕ) (d : Datagram c before after)
   step-at m h =
       change-step (c .sender) (question (c .datagram) m) (llqOption (c .datagram) m) (d .tables m) (d .tables (suc m)) (d .options m h .change)
 
-  -- clock, roster and size stay
+  -- clock, roster, size and layout stay
   same-at : (m : ℕ) → m ≤ doneOptions c
-      → (d .tables m .clock ≡ advance (readTable before .clock) (c .week * 604800 + c .second))
+      → (d .tables m .clock ≡ advance (cycleIn (readTable before)) (readTable before .clock) (c .week * 604800 + c .second))
       × (d .tables m .roster ≡ readTable before .roster)
       × (length (d .tables m .slots) ≡ length (readTable before .slots))
-  same-at zero h = (clock-at c before after d 0 h, d .moved .roster, d .moved .size)
+      × (d .tables m .layout ≡ readTable before .layout)
+  same-at zero h = (clock-at c before after d 0 h, d .moved .roster, d .moved .size, d .moved .layout)
   same-at (suc m) h =
       let x = step-at m (omega arith) in
       let y = same-at m (omega arith) in
-      (clock-at c before after d (suc m) h, x .roster ∙ y .1, x .size ∙ y .2)
+      (clock-at c before after d (suc m) h, x .roster ∙ y .1, x .size ∙ y .2, x .layout ∙ y .3)
 
   -- one slot, at the count after the clock moved
   slot-moved : (j : ℕ) → OnlyOwn (c .sender) (d .tables 0 .clock .running) (slotOf (readTable before) j) (slotOf (d .tables 0) j)
@@ -138,6 +142,7 @@ module _ (c : ServeCall) (before after : List ℕ) (d : Datagram c before after)
   others-kept : OthersKept c (readTable before) (d .tables (doneOptions c))
   others-kept =
       record {
+        layout = same-at (doneOptions c) (omega arith) .3;
         clock = same-at (doneOptions c) (omega arith) .0;
         roster = same-at (doneOptions c) (omega arith) .1;
         size = same-at (doneOptions c) (omega arith) .2;

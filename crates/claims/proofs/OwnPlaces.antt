@@ -10,18 +10,20 @@ use lib.ListN.{length}
 use lib.IntN.{ℤ, pos, negsuc}
 use lib.Dec.{eqb, leb}
 use Rattle.model.specs.Lists.{count}
-use Rattle.model.specs.Clock.{Clock, cycle, slack, step, moved, advance, ageAt, placeOf}
+use Rattle.model.specs.Clock.{Clock, slack, step, moved, advance, ageAt, placeOf}
 use Rattle.model.specs.Query.{Question, LlqOption, question, llqOption}
-use Rattle.model.specs.Table.{Slot, free, held, Table, readTable, tableBytes, sizeOf}
+use Rattle.model.specs.Table.{Slot, free, held, Table, cycleIn, readTable, tableBytes, sizeOf}
 use Rattle.model.specs.Rules.{holdings, grantedLease, full}
 use Rattle.model.specs.Sound.{Sound, Fits, SoundBytes}
-use Rattle.model.specs.Serve.{Sender, Served, Kind, withClock, withSlot, ended, renew, retryLater, granted, freeRunOut, badVersion, badFormat, setup, response, refresh, slotOf, movedOn, freeIfRunOut, findEntry, kindOfOption, onSetup, serveSetup, onResponse, serveResponse, onRefresh, serveRefresh, serveKind, serveOption}
+use Rattle.model.specs.Serve.{Sender, Served, Kind, withClock, withSlots, withSlot, ended, renew, retryLater, granted, freeRunOut, badVersion, badFormat, setup, response, refresh, slotOf, movedOn, freeIfRunOut, findEntry, kindOfOption, onSetup, serveSetup, onResponse, serveResponse, onRefresh, serveRefresh, serveKind, serveOption}
 use Rattle.model.specs.Calls.{TickCall, ServeCall, Ticked, Answered, tickRefusal, serveRefusal, tableBefore, tableAfter, tick, serve}
 use Rattle.model.specs.Meets.{model}
 use Rattle.model.proofs.ListLaws.{either}
 use Rattle.model.proofs.RoundTrip.{table-back}
 use Rattle.model.proofs.ClockLaws.{placed}
+use Rattle.model.proofs.StepLaws.{cycle-fits, moved-layout}
 use Rattle.model.proofs.CallLaws.{tick-number, tick-answered, serve-number, serve-answered}
+use Rattle.claims.specs.Lengths.{cycleFor}
 use Rattle.claims.specs.Tally.{tallyBefore, moveTally}
 use Rattle.claims.specs.Events.{Event, made, ticked, served, callOf, tableOf, Happens, InRange, TickInRange, ServeInRange}
 use Rattle.claims.specs.Changes.{doneOptions}
@@ -30,15 +32,16 @@ use Rattle.claims.specs.AnySound.{tallyOf}
 use Rattle.claims.specs.Impostors.{Parts, movesBy, tableWith, tickWith, serveWith, onBack, moveBack, setTo, keepsAlways, OwnPlaces}
 use Rattle.claims.proofs.AcceptedCalls.{tick-accepted, serve-accepted}
 use Rattle.claims.proofs.Refusals.{refusals}
+use Rattle.claims.proofs.Demand3.TallyLaws.{before-cycle}
 use Rattle.claims.proofs.Demand3.CallSteps.{kept-stored, kept-step}
 use Rattle.claims.proofs.Relation.MoveKeeps.{move-keeps}
 use Rattle.claims.proofs.Relation.DatagramKeeps.{done-le, datagram-keeps}
-use Rattle.claims.proofs.Relation.TableTally.{related-read, read-back}
+use Rattle.claims.proofs.Relation.TableTally.{related-read, same-layout, read-back}
 use Rattle.claims.proofs.LiveAge.AgeSteps.{kept-self, age-step, since-stamped}
 
 -- ANOTHER PLACE in a table's clock
 abbrev withPlace : ℕ → Table → Table
-withPlace p t = record { clock = record { place = p; running = t .clock .running }; roster = t .roster; slots = t .slots }
+withPlace p t = withClock t (record { place = p; running = t .clock .running })
 
 abbrev placedIn : ℕ → Served → Served
 placedIn p x = record { table = withPlace p (x .table); outcome = x .outcome }
@@ -80,7 +83,7 @@ module _ (p : ℕ) (t : Table) (s : Sender) (r : ℕ) (q : Question) (o : LlqOpt
   on-kind refresh = on-refresh _ _
 
 -- a sound table with another place on the cycle is sound
-module _ (p : ℕ) (h : p < cycle) (t : Table) (s : Sound t) (f : Fits t) where
+module _ (p : ℕ) (t : Table) (h : p < cycleIn t) (s : Sound t) (f : Fits t) where
   sound-placed : Sound (withPlace p t)
   sound-placed =
       record {
@@ -102,7 +105,7 @@ module _ (p : ℕ) (h : p < cycle) (t : Table) (s : Sound t) (f : Fits t) where
       }
 
   fits-placed : Fits (withPlace p t)
-  fits-placed = record { place = omega (arith, h); running = f .running; lines = f .lines; slots = f .slots }
+  fits-placed = record { place = omega (arith, h, cycle-fits (t .layout .weeks)); running = f .running; lines = f .lines; slots = f .slots }
 
   read-placed : readTable (tableBytes (withPlace p t)) ≡ withPlace p t
   read-placed = table-back (withPlace p t) (s .lines) fits-placed
@@ -111,38 +114,38 @@ module _ (p : ℕ) (h : p < cycle) (t : Table) (s : Sound t) (f : Fits t) where
   stored-placed = record { table = withPlace p t; sound = sound-placed; fits = fits-placed; bytes = refl }
 
 -- THE CLOCK OF keepsAlways: the model's count, at a place of its own
-same-count : (c : Clock) (to : ℕ) → moveBack setTo c to .running ≡ advance c to .running
+same-count : (c : ℕ) (k : Clock) (to : ℕ) → moveBack setTo c k to .running ≡ advance c k to .running
 unfolding advance
-same-count c to = go (step (c .place) to)
+same-count c k to = go (step c (k .place) to)
   where
-    go : (z : ℤ) → onBack setTo c to z .running ≡ moved c to z .running
+    go : (z : ℤ) → onBack setTo k to z .running ≡ moved k to z .running
     go (pos n) = refl
-    go (negsuc n) = either (λ (k : Clock). c .running ≡ k .running) (leb (n + 1) slack) refl refl
+    go (negsuc n) = either (λ (x : Clock). k .running ≡ x .running) (leb (n + 1) slack) refl refl
 
-own-place : (c : Clock) (to : ℕ) → to < cycle → moveBack setTo c to .place < cycle
-own-place c to h = go (step (c .place) to)
+own-place : (c : ℕ) (k : Clock) (to : ℕ) → to < c → moveBack setTo c k to .place < c
+own-place c k to h = go (step c (k .place) to)
   where
-    go : (z : ℤ) → onBack setTo c to z .place < cycle
+    go : (z : ℤ) → onBack setTo k to z .place < c
     go (pos n) = h
     go (negsuc n) = h
 
 abbrev parts : Parts
-parts = movesBy (λ t place. freeRunOut (withClock t (moveBack setTo (t .clock) place)))
+parts = movesBy (λ t place. freeRunOut (withClock t (moveBack setTo (cycleIn t) (t .clock) place)))
 
-moves-placed : (t : Table) (to : ℕ) → parts .moves t to ≡ withPlace (moveBack setTo (t .clock) to .place) (movedOn t to)
+moves-placed : (t : Table) (to : ℕ) → parts .moves t to ≡ withPlace (moveBack setTo (cycleIn t) (t .clock) to .place) (movedOn t to)
 unfolding movedOn
 moves-placed t to =
     ap
     (λ (r : ℕ).
-    record { clock = record { place = moveBack setTo (t .clock) to .place; running = r }; roster = t .roster; slots = map (freeIfRunOut r) (t .slots) })
-    (same-count (t .clock) to)
+    withSlots (withClock t (record { place = moveBack setTo (cycleIn t) (t .clock) to .place; running = r })) (map (freeIfRunOut r) (t .slots)))
+    (same-count (cycleIn t) (t .clock) to)
 
 table-placed : (c : ServeCall) (t : Table) (i : ℕ)
-    → tableWith parts c t i ≡ withPlace (moveBack setTo (t .clock) (placeOf (c .week) (c .second)) .place) (tableBefore c t i)
+    → tableWith parts c t i ≡ withPlace (moveBack setTo (cycleIn t) (t .clock) (placeOf (c .week) (c .second)) .place) (tableBefore c t i)
 unfolding tableWith tableBefore
 table-placed c t zero = moves-placed t (placeOf (c .week) (c .second))
 table-placed c t (suc i) =
-    let p = moveBack setTo (t .clock) (placeOf (c .week) (c .second)) .place in
+    let p = moveBack setTo (cycleIn t) (t .clock) (placeOf (c .week) (c .second)) .place in
     ap (λ (u : Table). serveOption (c .sender) (c .random) (question (c .datagram) i) (llqOption (c .datagram) i) u .table) (table-placed c t i)
     ∙ ap (λ (x : Served). x .table) (on-kind p (tableBefore c t i) (c .sender) (c .random) (question (c .datagram) i) (llqOption (c .datagram) i) (kindOfOption (llqOption (c .datagram) i)))
 
@@ -151,23 +154,23 @@ record Beside (b : List ℕ) (e : Event) : Type 0 where
   other : Event
   happens : Happens model b other
   range : InRange (callOf other)
-  steps : (place : ℕ) → stepIn place other ≡ stepIn place e
+  steps : (cycle place : ℕ) → stepIn cycle place other ≡ stepIn cycle place e
   place : ℕ
   read : readTable (tableOf e) ≡ withPlace place (readTable (tableOf other))
   sound : SoundBytes (tableOf e)
 
-module _ (b : List ℕ) (e other : Event) (happens : Happens model b other) (range : InRange (callOf other)) (steps : (place : ℕ) → stepIn place other ≡ stepIn place e) where
+module _ (b : List ℕ) (e other : Event) (happens : Happens model b other) (range : InRange (callOf other)) (steps : (cycle place : ℕ) → stepIn cycle place other ≡ stepIn cycle place e) where
   -- answered: it leaves the bytes of the model's table u, but for the place
-  answered : (p : ℕ) → p < cycle → (u : Table) → Sound u → Fits u → readTable (tableOf other) ≡ u → tableOf e ≡ tableBytes (withPlace p u) → Beside b e
-  answered p h u s f back left =
+  answered : (p : ℕ) (u : Table) → p < cycleIn u → Sound u → Fits u → readTable (tableOf other) ≡ u → tableOf e ≡ tableBytes (withPlace p u) → Beside b e
+  answered p u h s f back left =
       record {
         other = other;
         happens = happens;
         range = range;
         steps = steps;
         place = p;
-        read = ap readTable left ∙ read-placed p h u s f ∙ ap (withPlace p) (sym back);
-        sound = subst SoundBytes (sym left) (stored-placed p h u s f);
+        read = ap readTable left ∙ read-placed p u h s f ∙ ap (withPlace p) (sym back);
+        sound = subst SoundBytes (sym left) (stored-placed p u h s f);
       }
 
   -- refused: both leave the bytes as they were
@@ -200,15 +203,15 @@ tick-beside b c k freed after s range h = go (tickRefusal c b) refl
     happens : (n : ℕ) → tickRefusal c b ≡ n → Happens model b (other n)
     happens n e = record { number = sym (tick-number c b ∙ e); freed = refl; table = refl }
 
-    steps : (n : ℕ) → k ≡ n → (place : ℕ) → stepIn place (other n) ≡ stepIn place (ticked c k freed after)
-    steps n m place = ap (λ (n : ℕ). stepIn place (ticked c n 0 [])) (sym m)
+    steps : (n : ℕ) → k ≡ n → (cycle place : ℕ) → stepIn cycle place (other n) ≡ stepIn cycle place (ticked c k freed after)
+    steps n m cycle place = ap (λ (n : ℕ). stepIn cycle place (ticked c n 0 [])) (sym m)
 
     go : (n : ℕ) → tickRefusal c b ≡ n → Beside b (ticked c k freed after)
     go zero e =
-        let in-cycle = placed (c .week) (c .second) (tick-accepted c b e) in
+        let in-cycle = placed (t .layout .weeks) (c .week) (c .second) (tick-accepted c b e) in
         let r = move-keeps t (tallyOf t) at in-cycle (related-read b s) in
         answered b (ticked c k freed after) (other 0) (happens 0 e) range (steps 0 (h .number ∙ ap (λ (n : ℕ). tickWith parts n c b .number) e))
-        (moveBack setTo (t .clock) at .place) (own-place (t .clock) at in-cycle) (movedOn t at) (r .sound) (r .fits)
+        (moveBack setTo (cycleIn t) (t .clock) at .place) (movedOn t at) (rw (moved-layout t at) (own-place (cycleIn t) (t .clock) at in-cycle)) (r .sound) (r .fits)
         (ap (λ (x : Ticked). readTable (x .table)) (tick-answered c b e) ∙ read-back (movedOn t at) (moveTally (tallyOf t) at) r)
         (h .table ∙ ap (λ (n : ℕ). tickWith parts n c b .table) e ∙ ap tableBytes (moves-placed t at))
     go (suc n) e =
@@ -235,15 +238,16 @@ serve-beside b c lent k n after left s range h = go (serveRefusal c b) refl
     happens : (m : ℕ) → serveRefusal c b ≡ m → Happens model b (other m)
     happens m e = (h .0, record { number = sym (serve-number c b lent ∙ e); length = refl; table = refl; reply = refl })
 
-    steps : (m : ℕ) → k ≡ m → (place : ℕ) → stepIn place (other m) ≡ stepIn place (served c lent k n after left)
-    steps m e place = ap (λ (x : ℕ). stepIn place (served c [] x 0 [] [])) (sym e)
+    steps : (m : ℕ) → k ≡ m → (cycle place : ℕ) → stepIn cycle place (other m) ≡ stepIn cycle place (served c lent k n after left)
+    steps m e cycle place = ap (λ (x : ℕ). stepIn cycle place (served c [] x 0 [] [])) (sym e)
 
     go : (m : ℕ) → serveRefusal c b ≡ m → Beside b (served c lent k n after left)
     go zero e =
         let q = serve-accepted c b e in
         let r = datagram-keeps c t (tallyOf t) range (q .reading) (q .questions) (related-read b s) (doneOptions c) (done-le c) in
+        let layout-left = same-layout t u (tallyOf t) (tallyBefore c (tallyOf t) (doneOptions c)) (related-read b s) r (before-cycle c (tallyOf t) (doneOptions c)) in
         answered b (served c lent k n after left) (other 0) (happens 0 e) range (steps 0 (h .1 .number ∙ ap (λ (x : ℕ). serveWith parts x c b lent .number) e))
-        (moveBack setTo (t .clock) at .place) (own-place (t .clock) at (placed (c .week) (c .second) (q .reading))) u (r .sound) (r .fits)
+        (moveBack setTo (cycleIn t) (t .clock) at .place) u (rw layout-left (own-place (cycleIn t) (t .clock) at (placed (t .layout .weeks) (c .week) (c .second) (q .reading)))) (r .sound) (r .fits)
         (ap (λ (x : Answered). readTable (x .table)) (serve-answered c b lent e) ∙ read-back u (tallyBefore c (tallyOf t) (doneOptions c)) r)
         (h .1 .table ∙ ap (λ (x : ℕ). serveWith parts x c b lent .table) e ∙ ap tableBytes (table-placed c t (doneOptions c)))
     go (suc m) e =
@@ -258,23 +262,23 @@ beside b (made c k after) s range h =
       other = made c k after;
       happens = record { number = h .number; table = h .table };
       range = range;
-      steps = λ place. refl;
+      steps = λ cycle place. refl;
       place = readTable after .clock .place;
       read = refl;
-      sound = kept-stored (kept-step (sizeOf (length (readTable b .slots))) b (tallyOf (readTable b)) (made c k after) range (kept-self b s) (record { number = h .number; table = h .table }));
+      sound = kept-stored (kept-step (sizeOf (readTable b .layout) (length (readTable b .slots))) b (tallyOf (readTable b)) (made c k after) range (kept-self b s) (record { number = h .number; table = h .table }));
     }
 beside b (ticked c k freed after) s range h = tick-beside b c k freed after s range h
 beside b (served c lent k n after left) s range h = serve-beside b c lent k n after left s range h
 
 -- so an entry grows older by one call as the model's does
 own-step : (b : List ℕ) (e : Event) (j stamp : ℕ) → SoundBytes b → Beside b e → Stamped j stamp b → Stamped j stamp (tableOf e)
-    → ageIn (tableOf e) stamp ≡ ageIn b stamp + stepIn (readTable b .clock .place) e
+    → ageIn (tableOf e) stamp ≡ ageIn b stamp + stepIn (cycleFor (length b)) (readTable b .clock .place) e
 own-step b e j stamp s x here there =
     let still : Stamped j stamp (tableOf (x .other)) =
     record { entry = there .entry; here = ap (λ (t : Table). slotOf t j) (sym (x .read)) ∙ there .here; stamped = there .stamped } in
     ap (λ (t : Table). ageAt (t .clock .running) stamp) (x .read)
-    ∙ age-step (sizeOf (length (readTable b .slots))) b (tallyOf (readTable b)) (x .other) j stamp (x .range) (kept-self b s) (x .happens) here still
-    ∙ ap (λ (d : ℕ). ageIn b stamp + d) (x .steps (readTable b .clock .place))
+    ∙ age-step (sizeOf (readTable b .layout) (length (readTable b .slots))) b (tallyOf (readTable b)) (x .other) j stamp (x .range) (kept-self b s) (x .happens) here still
+    ∙ ap (λ (d : ℕ). ageIn b stamp + d) (x .steps (cycleFor (length b)) (readTable b .clock .place))
 
 keeps-always-grows : Grows keepsAlways
 keeps-always-grows b [] j stamp s ranges h here all = omega arith
@@ -282,7 +286,7 @@ keeps-always-grows b (e ∷ es) j stamp s ranges h here all =
     let x = beside b e s (ranges .0) (h .0) in
     keeps-always-grows (tableOf e) es j stamp (x .sound) (ranges .1) (h .1) (all .0) (all .1)
     ∙ ap (λ (a : ℕ). a + stepsAlong (tableOf e) es) (own-step b e j stamp s x here (all .0))
-    ∙ add-assoc (ageIn b stamp) (stepIn (readTable b .clock .place) e) (stepsAlong (tableOf e) es)
+    ∙ add-assoc (ageIn b stamp) (stepIn (cycleFor (length b)) (readTable b .clock .place) e) (stepsAlong (tableOf e) es)
 
 pub own-places : OwnPlaces
 own-places = (keeps-always-grows, since-stamped keepsAlways keeps-always-grows)

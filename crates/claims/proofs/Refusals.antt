@@ -17,7 +17,7 @@ use borrow.Author.Tests.{ltb-true, ltb-false}
 use Rattle.model.specs.Numbers.{Bytes}
 use Rattle.model.specs.Clock.{validReading}
 use Rattle.model.specs.Query.{wrongSize, goodHeader, qdcount, goodQuestions, questionsEnd, goodOpt, llqOptions}
-use Rattle.model.specs.Table.{slotsIn}
+use Rattle.model.specs.Table.{layoutOf}
 use Rattle.model.specs.Sound.{soundBytes}
 use Rattle.model.specs.Reply.{replyOptions, replyLength}
 use Rattle.model.specs.Calls.{MakeCall, TickCall, ServeCall, tableLength, goodRoster, makeRefusal, tickRefusal, serveRefusal, madeBy, tickedBy, servedBy, make, tick, serve}
@@ -27,8 +27,10 @@ use Rattle.model.proofs.QueryLaws.{start-min}
 use Rattle.model.proofs.CallLaws.{make-number, tick-number, serve-number}
 use Rattle.model.proofs.Meaning.{sound-means, means-sound}
 use Rattle.claims.specs.Events.{MakeInRange, ServeInRange}
+use Rattle.claims.specs.Lengths.{lastWeek, slotsFor}
 use Rattle.claims.specs.Refusals.{Lowest, Done, Unsound, WrongLength, ReadingFault, SizeFault, HeaderFault, QuestionFault, OptFault, NoLlqOption, BehindQuestions, lengthOf, ReplyFault, RosterFault, MakeNumber, TickNumber, ServeNumber, Refusals}
 use Rattle.claims.proofs.Refusals.Ladders.{rung, rung-not, no-rung}
+use Rattle.claims.proofs.LengthLaws.{slots-for}
 use Rattle.claims.proofs.Refusals.HeaderReading.{bad-length, good-length, bad-reading, good-reading, bad-size, good-size, bad-header, good-header}
 use Rattle.claims.proofs.Refusals.QuestionReading.{big-two, bad-questions, good-questions, starts-end, end-is}
 use Rattle.claims.proofs.Refusals.OptReading.{bad-opt, good-opt, no-option, some-option}
@@ -77,25 +79,28 @@ module _ (d : List ℕ) (room : ℕ) where
 make-ladder : (c : MakeCall) (size : ℕ) → MakeInRange c → MakeNumber c size (makeRefusal c size)
 unfolding makeRefusal
 make-ladder c size range =
-    let n = slotsIn size in
-    let read = validReading (c .week) (c .second) in
+    rw (slots-for size)
+    (let n = slotsFor size in
+    let read = validReading (layoutOf size .weeks) (c .week) (c .second) in
+    let fault = ReadingFault (lastWeek size) (c .week) (c .second) in
     let k9 : List (ℕ × Bool) = (9, not (goodRoster n (c .roster))) ∷ [] in
     let r9 : ℕ → Type 0 = Lowest 9 (RosterFault n (c .roster)) Done in
     let k2 : List (ℕ × Bool) = (2, not read) ∷ k9 in
-    let r2 : ℕ → Type 0 = Lowest 2 (ReadingFault (c .week) (c .second)) r9 in
+    let r2 : ℕ → Type 0 = Lowest 2 fault r9 in
     rung-not 1 (tableLength size) k2 (WrongLength size) r2 (bad-length size) (good-length size) λ t1.
-    rung-not 2 read k9 (ReadingFault (c .week) (c .second)) r9 (bad-reading (c .week) (c .second)) (good-reading (c .week) (c .second)) λ t2.
+    rung-not 2 read k9 fault r9 (bad-reading size (c .week) (c .second)) (good-reading size (c .week) (c .second)) λ t2.
     rung-not 9 (goodRoster n (c .roster)) [] (RosterFault n (c .roster)) Done (bad-roster n (c .roster) (range .roster)) (good-roster n (c .roster)) λ t9.
-    no-rung
+    no-rung)
 
 tick-ladder : (c : TickCall) (b : List ℕ) → Bytes b → TickNumber c b (tickRefusal c b)
 unfolding tickRefusal
 tick-ladder c b bytes =
-    let read = validReading (c .week) (c .second) in
+    let read = validReading (layoutOf (length b) .weeks) (c .week) (c .second) in
+    let fault = ReadingFault (lastWeek (length b)) (c .week) (c .second) in
     let k2 : List (ℕ × Bool) = (2, not read) ∷ [] in
-    let r2 : ℕ → Type 0 = Lowest 2 (ReadingFault (c .week) (c .second)) Done in
+    let r2 : ℕ → Type 0 = Lowest 2 fault Done in
     rung-not 1 (soundBytes b) k2 (Unsound b) r2 (unsound b) (sound b bytes) λ t1.
-    rung-not 2 read [] (ReadingFault (c .week) (c .second)) Done (bad-reading (c .week) (c .second)) (good-reading (c .week) (c .second)) λ t2.
+    rung-not 2 read [] fault Done (bad-reading (length b) (c .week) (c .second)) (good-reading (length b) (c .week) (c .second)) λ t2.
     no-rung
 
 serve-ladder : (c : ServeCall) (b : List ℕ) → ServeInRange c → Bytes b → ServeNumber c b (serveRefusal c b)
@@ -103,7 +108,8 @@ unfolding serveRefusal
 serve-ladder c b range bytes =
     let d = c .datagram in
     let at = questionsEnd d in
-    let read = validReading (c .week) (c .second) in
+    let read = validReading (layoutOf (length b) .weeks) (c .week) (c .second) in
+    let fault = ReadingFault (lastWeek (length b)) (c .week) (c .second) in
     let long = ltb (c .room) (replyLength d) || ltb 1472 (replyLength d) in
     let k8 : List (ℕ × Bool) = (8, long) ∷ [] in
     let r8 : ℕ → Type 0 = Lowest 8 (BehindQuestions d (ReplyFault d (c .room))) Done in
@@ -118,9 +124,9 @@ serve-ladder c b range bytes =
     let k3 : List (ℕ × Bool) = (3, wrongSize d) ∷ k4 in
     let r3 : ℕ → Type 0 = Lowest 3 (SizeFault d) r4 in
     let k2 : List (ℕ × Bool) = (2, not read) ∷ k3 in
-    let r2 : ℕ → Type 0 = Lowest 2 (ReadingFault (c .week) (c .second)) r3 in
+    let r2 : ℕ → Type 0 = Lowest 2 fault r3 in
     rung-not 1 (soundBytes b) k2 (Unsound b) r2 (unsound b) (sound b bytes) λ t1.
-    rung-not 2 read k3 (ReadingFault (c .week) (c .second)) r3 (bad-reading (c .week) (c .second)) (good-reading (c .week) (c .second)) λ t2.
+    rung-not 2 read k3 fault r3 (bad-reading (length b) (c .week) (c .second)) (good-reading (length b) (c .week) (c .second)) λ t2.
     rung 3 (wrongSize d) k4 (SizeFault d) r4 (bad-size d) (good-size d) λ t3.
     rung-not 4 (goodHeader d) k5 (HeaderFault d) r5 (bad-header d (range .datagram)) (good-header d (range .datagram)) λ t4.
     rung-not 5 (goodQuestions d (qdcount d)) k6 (QuestionFault d) r6 (bad-questions d) (good-questions d) λ t5.

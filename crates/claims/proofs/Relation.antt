@@ -16,13 +16,14 @@ use mathlib.Core.Path.{_≡_}
 use mathlib.Core.Bool.{Bool}
 use lib.ListN.{length}
 use Rattle.model.specs.Lists.{count}
-use Rattle.model.specs.Table.{Table}
+use Rattle.model.specs.Table.{Table, cycleIn}
 use Rattle.model.specs.Rules.{Holding, holdings}
 use Rattle.model.specs.Sound.{Sound, Fits}
 use Rattle.claims.specs.Tally.{Tally}
 
 -- the same holdings, places aside: for every test, as many pass
 pub record Related (t : Table) (y : Tally) : Type 0 where
+  pub cycle : cycleIn t ≡ y .cycle
   pub place : t .clock .place ≡ y .place
   pub running : t .clock .running ≡ y .running
   pub n : length (t .slots) ≡ y .n

@@ -1,62 +1,106 @@
--- The model's clock runs on from where it was set to. Assumes nothing.
-use Prim.Native.Nat.{ℕ, _+_, _-_, _%_, _^_, _≤_, _<_}
+-- The model's clock runs on from where it was set to, in a cycle of any even number of seconds. Assumes nothing.
+use Prim.Native.Nat.{ℕ, _+_, _-_, _/_, _%_, _^_, _≤_, _<_}
 use native.Mathlib.Omega.{arith}
-use mathlib.Core.Path.{_≡_, refl, ap, _∙_, subst}
-use mathlib.Core.Bool.{Bool, true, false}
+use mathlib.Core.Path.{_≡_, refl, ap, _∙_}
+use mathlib.Core.Bool.{Bool, true, false, cond}
 use mathlib.Core.Logic.{_⊎_, inl, inr}
 use lib.IntN.{pos}
 use lib.Dec.{ltb}
-use borrow.Author.Tests.{ltb-true, ltb-false}
-use Rattle.model.specs.Clock.{Clock, cycle, advance}
-use Rattle.model.proofs.ClockLaws.{forward-step, backward-step, advance-on, advance-back, advance-set-back}
-use Rattle.claims.specs.Tally.{behind}
+use borrow.Author.Tests.{ltb-true, ltb-false, le-ltb}
+use Rattle.model.specs.Clock.{Clock, advance}
+use Rattle.model.proofs.ClockLaws.{advance-on, advance-back, advance-set-back}
+use Rattle.claims.specs.Tally.{ahead, behind}
 use Rattle.claims.specs.Resumes.{later, Resumes}
+use Rattle.claims.proofs.CycleLaws.{forward-by, backward-by}
 
--- a reading n seconds ahead
-on-by : (c : Clock) (to n : ℕ) → c .place < cycle → to < cycle → n < 309657600 → (to + (619315200 - c .place)) % 619315200 ≡ n
-    → advance c to ≡ record { place = to; running = (c .running + n) % 2 ^ 32 }
-on-by c to n hc ht hn e = advance-on c to n (forward-step (c .place) to hc ht (omega arith) ∙ ap pos e)
+module _ (c : ℕ) (even : c / 2 + c / 2 ≡ c) where
+  -- THE SECONDS AHEAD, BEHIND AND LATER by equations, around the cycle or not
 
-set-back : (c : Clock) (p d : ℕ) → c .place < 619315200 → c .running < 2 ^ 32 → p < 619315200 → d < 309657600 → 61 ≤ behind (c .place) p
-    → behind (c .place) p ≤ 309657600 → advance (advance c p) (later p d) ≡ record { place = later p d; running = (c .running + d) % 2 ^ 32 }
-set-back c p d hc hr hp hd least most =
-    let first : advance c p ≡ record { place = p; running = c .running } =
-    advance-set-back c p _ (backward-step (c .place) p hc hp (omega arith)) (omega arith) in
-    ap (λ (k : Clock). advance k (later p d)) first
-    ∙ on-by (record { place = p; running = c .running }) (later p d) d hp (omega arith) hd (omega arith)
+  ahead-eq : (from to : ℕ) → from < c → ((from ≤ to) × (ahead c from to + from ≡ to)) ⊎ ((to < from) × (ahead c from to + from ≡ to + c))
+  ahead-eq from to hf = go (ltb to from) refl
+    where
+      go : (v : Bool) → ltb to from ≡ v
+          → ((from ≤ to) × (cond v (to + c - from) (to - from) + from ≡ to)) ⊎ ((to < from) × (cond v (to + c - from) (to - from) + from ≡ to + c))
+      go true e = let l = ltb-true to from e in inr (l, omega arith)
+      go false e = let l = ltb-false to from e in inl (l, omega arith)
 
--- d seconds after a place p that is k seconds behind q lies d less k ahead of q: in naturals, around the cycle or not
-on-cycle : (q p d k z : ℕ) → q < 619315200 → d < 309657600 → k ≤ d → (q ≡ p + k) ⊎ (q + 619315200 ≡ p + k) → (z ≡ p + d) ⊎ (z + 619315200 ≡ p + d) → z < 619315200
-    → (z + (619315200 - q)) % 619315200 ≡ d - k
-on-cycle q p d k z hq hd h (inl a) (inl b) hz = omega arith
-on-cycle q p d k z hq hd h (inl a) (inr b) hz = omega arith
-on-cycle q p d k z hq hd h (inr a) (inl b) hz = omega arith
-on-cycle q p d k z hq hd h (inr a) (inr b) hz = omega arith
+  behind-eq : (from to : ℕ) → to < c → ((to ≤ from) × (behind c from to + to ≡ from)) ⊎ ((from < to) × (behind c from to + to ≡ from + c))
+  behind-eq from to ht = go (ltb from to) refl
+    where
+      go : (v : Bool) → ltb from to ≡ v
+          → ((to ≤ from) × (cond v (from + c - to) (from - to) + to ≡ from)) ⊎ ((from < to) × (cond v (from + c - to) (from - to) + to ≡ from + c))
+      go true e = let l = ltb-true from to e in inr (l, omega arith)
+      go false e = let l = ltb-false from to e in inl (l, omega arith)
 
-behind-is : (q p : ℕ) → q < 619315200 → p < 619315200 → (q ≡ p + behind q p) ⊎ (q + 619315200 ≡ p + behind q p)
-behind-is q p hq hp = go (ltb q p) refl
-  where
-    go : (v : Bool) → ltb q p ≡ v → (q ≡ p + behind q p) ⊎ (q + 619315200 ≡ p + behind q p)
-    go true e = inr (omega (arith, ltb-true q p e))
-    go false e = inl (omega (arith, ltb-false q p e))
+  later-eq : (p d : ℕ) → ((p + d < c) × (later c p d ≡ p + d)) ⊎ ((c ≤ p + d) × (later c p d + c ≡ p + d))
+  later-eq p d = go (ltb (p + d) c) refl
+    where
+      go : (v : Bool) → ltb (p + d) c ≡ v
+          → ((p + d < c) × (cond v (p + d) (p + d - c) ≡ p + d)) ⊎ ((c ≤ p + d) × (cond v (p + d) (p + d - c) + c ≡ p + d))
+      go true e = inl (ltb-true (p + d) c e, refl)
+      go false e = let l = ltb-false (p + d) c e in inr (l, omega arith)
 
-later-is : (p d : ℕ) → p < 619315200 → d < 309657600 → (later p d ≡ p + d) ⊎ (later p d + 619315200 ≡ p + d)
-later-is p d hp hd = go (ltb (p + d) 619315200) refl
-  where
-    go : (v : Bool) → ltb (p + d) 619315200 ≡ v → (later p d ≡ p + d) ⊎ (later p d + 619315200 ≡ p + d)
-    go true e = inl (omega (arith, ltb-true (p + d) 619315200 e))
-    go false e = inr (omega (arith, ltb-false (p + d) 619315200 e))
+  -- d seconds after a place p that is b seconds behind q lies d less b ahead of q
+  ahead-later : (q p d b : ℕ) → q < c → p < c → d < c / 2 → behind c q p ≡ b → b ≤ d → ahead c q (later c p d) ≡ d - b
+  ahead-later q p d b hq hp hd e enough = go (ahead c q (later c p d)) (behind c q p) (later c p d) e (ahead-eq q (later c p d) hq) (behind-eq q p hp) (later-eq p d)
+    where
+      go : (x y z : ℕ) → y ≡ b → ((q ≤ z) × (x + q ≡ z)) ⊎ ((z < q) × (x + q ≡ z + c)) → ((p ≤ q) × (y + p ≡ q)) ⊎ ((q < p) × (y + p ≡ q + c))
+          → ((p + d < c) × (z ≡ p + d)) ⊎ ((c ≤ p + d) × (z + c ≡ p + d)) → x ≡ d - b
+      go x y z f (inl u) (inl v) (inl w) = omega (arith, u, v, w)
+      go x y z f (inl u) (inl v) (inr w) = absurd (omega (arith, u, v, w))
+      go x y z f (inl u) (inr v) (inl w) = absurd (omega (arith, u, v, w))
+      go x y z f (inl u) (inr v) (inr w) = omega (arith, u, v, w)
+      go x y z f (inr u) (inl v) (inl w) = absurd (omega (arith, u, v, w))
+      go x y z f (inr u) (inl v) (inr w) = omega (arith, u, v, w)
+      go x y z f (inr u) (inr v) (inl w) = absurd (omega (arith, u, v, w))
+      go x y z f (inr u) (inr v) (inr w) = absurd (omega (arith, u, v, w))
 
-less-by : (q p d k : ℕ) → q < 619315200 → p < 619315200 → d < 309657600 → behind q p ≡ k → k ≤ d → (later p d + (619315200 - q)) % 619315200 ≡ d - k
-less-by q p d k hq hp hd e enough =
-    on-cycle q p d k (later p d) hq hd enough (subst (λ (z : ℕ). (q ≡ p + z) ⊎ (q + 619315200 ≡ p + z)) e (behind-is q p hq hp)) (later-is p d hp hd) (omega arith)
+  later-less : (p d : ℕ) → p < c → d < c / 2 → later c p d < c
+  later-less p d hp hd = go (later c p d) (later-eq p d)
+    where
+      go : (z : ℕ) → ((p + d < c) × (z ≡ p + d)) ⊎ ((c ≤ p + d) × (z + c ≡ p + d)) → z < c
+      go z (inl w) = omega (arith, w)
+      go z (inr w) = omega (arith, w)
 
-went-back : (c : Clock) (p d k : ℕ) → c .place < 619315200 → c .running < 2 ^ 32 → p < 619315200 → d < 309657600 → behind (c .place) p ≡ k → 1 ≤ k
-    → k ≤ 60 → k ≤ d → advance (advance c p) (later p d) ≡ record { place = later p d; running = (c .running + (d - k)) % 2 ^ 32 }
-went-back c p d k hc hr hp hd e least most enough =
-    let first : advance c p ≡ c = advance-back c p _ (backward-step (c .place) p hc hp (omega arith)) (omega arith) in
-    ap (λ (z : Clock). advance z (later p d)) first ∙ on-by c (later p d) (d - k) hc (omega arith) (omega arith)
-    (less-by (c .place) p d k hc hp hd e enough)
+  -- a place 1 to half a cycle behind is half a cycle or more ahead
+  half-ahead : (from to : ℕ) → from < c → to < c → 1 ≤ behind c from to → behind c from to ≤ c / 2 → c / 2 ≤ ahead c from to
+  half-ahead from to hf ht = go (ahead c from to) (behind c from to) (ahead-eq from to hf) (behind-eq from to ht)
+    where
+      go : (x y : ℕ) → ((from ≤ to) × (x + from ≡ to)) ⊎ ((to < from) × (x + from ≡ to + c)) → ((to ≤ from) × (y + to ≡ from)) ⊎ ((from < to) × (y + to ≡ from + c))
+          → 1 ≤ y → y ≤ c / 2 → c / 2 ≤ x
+      go x y (inl u) (inl v) least most = absurd (omega (arith, u, v))
+      go x y (inl u) (inr v) least most = omega (arith, u, v)
+      go x y (inr u) (inl v) least most = omega (arith, u, v)
+      go x y (inr u) (inr v) least most = absurd (omega (arith, u, v))
+
+  -- THE CLOCK
+
+  -- a reading n seconds ahead
+  on-by : (k : Clock) (to n : ℕ) → k .place < c → to < c → n < c / 2 → ahead c (k .place) to ≡ n
+      → advance c k to ≡ record { place = to; running = (k .running + n) % 2 ^ 32 }
+  on-by k to n hk ht hn e = advance-on c k to n (forward-by c even (k .place) to hk ht (omega (arith, e)) ∙ ap pos e)
+
+  set-back : (k : Clock) (p d : ℕ) → k .place < c → p < c → d < c / 2 → 61 ≤ behind c (k .place) p → behind c (k .place) p ≤ c / 2
+      → advance c (advance c k p) (later c p d) ≡ record { place = later c p d; running = (k .running + d) % 2 ^ 32 }
+  set-back k p d hk hp hd least most =
+      let half = half-ahead (k .place) p hk hp (omega (arith, least)) most in
+      let first : advance c k p ≡ record { place = p; running = k .running } =
+      advance-set-back c k p _ (backward-by c even (k .place) p hk hp half) (omega (arith, least)) in
+      let here : behind c p p ≡ 0 = rw (le-ltb p p (omega arith)) (omega arith) in
+      ap (λ (z : Clock). advance c z (later c p d)) first
+      ∙ on-by (record { place = p; running = k .running }) (later c p d) d hp (later-less p d hp hd) hd (ahead-later p p d 0 hp hp hd here (omega arith) ∙ omega arith)
+
+  went-back : (k : Clock) (p d b : ℕ) → k .place < c → p < c → d < c / 2 → behind c (k .place) p ≡ b → 1 ≤ b → b ≤ 60 → b ≤ d
+      → advance c (advance c k p) (later c p d) ≡ record { place = later c p d; running = (k .running + (d - b)) % 2 ^ 32 }
+  went-back k p d b hk hp hd e least most enough =
+      let half = half-ahead (k .place) p hk hp (omega (arith, e)) (omega (arith, e)) in
+      let first : advance c k p ≡ k = advance-back c k p _ (backward-by c even (k .place) p hk hp half) (omega (arith, e)) in
+      ap (λ (z : Clock). advance c z (later c p d)) first
+      ∙ on-by k (later c p d) (d - b) hk (later-less p d hp hd) (omega arith) (ahead-later (k .place) p d b hk hp hd e enough)
 
 pub resumes : Resumes advance
-resumes = record { setBack = set-back; wentBack = went-back }
+resumes =
+    record {
+      setBack = λ c k p d even hk hr hp hd least most. set-back c even k p d hk hp hd least most;
+      wentBack = λ c k p d b even hk hr hp hd e least most enough. went-back c even k p d b hk hp hd e least most enough;
+    }

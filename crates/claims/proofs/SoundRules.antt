@@ -8,7 +8,7 @@ use lib.ListN.{length, getD}
 use lib.Dec.{eqb, leb, ltb}
 use borrow.Author.Tests.{eqb-true, eqb-false, eq-eqb, ne-eqb, leb-true, le-leb, ltb-true, lt-ltb, not-true}
 use Rattle.model.specs.Lists.{bit, count, any}
-use Rattle.model.specs.Clock.{ageAt}
+use Rattle.model.specs.Clock.{Weeks, tenBit, thirteenBit, cycleOf, ageAt}
 use Rattle.model.specs.Names.{lowerName}
 use Rattle.model.specs.Table.{Line, Entry, Slot, free, held, Table}
 use Rattle.model.specs.Rules.{Holding, holding, holdings, entriesOf, heldBy, numbered, limitOf, reserve, shares}
@@ -19,7 +19,7 @@ use Rattle.model.proofs.HoldingLaws.{held-in, held-inj, count-entries, count-fr
 use Rattle.model.proofs.RoundTrip.{noLine}
 use Rattle.model.proofs.Facts.{Agree, agree, agreed}
 use Rattle.claims.specs.Tally.{lineOf}
-use Rattle.claims.specs.SoundRules.{LineRules, lineIn, sumOfShares, EntryRules, Agreeing, heldSlots, freeSlots, reservedSlots, InSlot, SoundRules, SoundExactly}
+use Rattle.claims.specs.SoundRules.{LineRules, lineIn, sumOfShares, EntryRules, Agreeing, heldSlots, freeSlots, reservedSlots, InSlot, placesWith, SoundRules, SoundExactly}
 use Rattle.claims.proofs.Relation.TallyRules.{limit-of, short-of}
 use Rattle.claims.proofs.StoredNames.{stored-names}
 
@@ -39,6 +39,11 @@ module _ {A : Type 0} (p : A → Bool) (d : A) where
       go : (v : Bool) → p x ≡ v → count l p ≤ 1 → bit v + count l p ≤ 1
       go true e r = let z = none-pass l (λ i m t. h 0 (suc i) (omega arith) (omega arith) e t) in omega arith
       go false e r = omega arith
+
+-- THE PLACES of a cycle
+places-with : (w : Weeks) → placesWith w ≡ cycleOf w
+places-with tenBit = refl
+places-with thirteenBit = refl
 
 -- HOW MANY
 
@@ -121,7 +126,7 @@ module _ (t : Table) where
     unfolding r
     to-rules =
         record {
-          place = s .place;
+          place = rw (places-with (t .layout .weeks)) (s .place);
           slotsMin = s .slotsMin;
           slotsMax = s .slotsMax;
           linesMax = s .lines;
@@ -191,7 +196,7 @@ module _ (t : Table) where
     unfolding r
     from-rules =
         record {
-          place = s .place;
+          place = rw (← places-with (t .layout .weeks)) (s .place);
           slotsMin = s .slotsMin;
           slotsMax = s .slotsMax;
           lines = s .linesMax;

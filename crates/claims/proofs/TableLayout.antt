@@ -2,7 +2,7 @@
 use Prim.Native.Nat.{ℕ, zero, suc, _+_, _-_, _*_, _^_, _≤_, _<_}
 use native.Mathlib.Nat.{add-zero, add-assoc}
 use native.Mathlib.Omega.{arith}
-use mathlib.Core.Path.{_≡_, refl, sym, ap, _∙_}
+use mathlib.Core.Path.{_≡_, refl, sym, ap, _∙_, subst}
 use mathlib.Core.Bool.{Bool, true, false}
 use mathlib.Core.List.{List, [], _∷_, _++_, append-assoc, append-nil}
 use mathlib.Core.Logic.{⊎-elim}
@@ -12,18 +12,27 @@ use lib.Dec.{ltb, lit<}
 use borrow.Author.Tests.{ltb-true, ltb-false}
 use Rattle.model.specs.Lists.{upTo, flat}
 use Rattle.model.specs.Numbers.{Bytes, bigEndian, bytesOf, part, encode}
-use Rattle.model.specs.Table.{Line, Entry, Slot, free, held, Table, entryFields, kindOf, clockBytes, lineBytes, unusedLine, slotBytes, rosterBytes, tableBytes, readLine, readEntry, readTable}
+use Rattle.model.specs.Clock.{Weeks, tenBit, thirteenBit}
+use Rattle.model.specs.Table.{Line, Entry, Slot, free, held, Layout, Table, clockKind, placeBytes, runningAt, linesAt, base, lineAt, slotAt, sizeOf, entryFields, kindOf, clockBytes, lineBytes, unusedLine, slotBytes, rosterBytes, tableBytes, readLine, readEntry, readTable}
 use Rattle.model.specs.Sound.{FitsLine, FitsEntry, FitsSlot, Fits}
 use Rattle.model.proofs.ListLaws.{test, getD-past, getD-any, length-flat, length-upTo, getD-upTo}
 use Rattle.model.proofs.NumberLaws.{big-lt, bytes-big, big-ext, big-one, getD-part, length-encode, encode-first}
 use Rattle.model.proofs.SlotLaws.{length-line, length-unused, kind-lt, entry-back, line-back, field-behind}
-use Rattle.model.proofs.TableLaws.{flat-cut, length-front, length-roster, length-clock, bytes-table, fits-rows, length-table, clockFields}
+use Rattle.model.proofs.TableLaws.{flat-cut, length-front, length-roster, length-clock, bytes-table, fits-rows, length-table, clockFields, clock-starts}
 use Rattle.model.proofs.RoundTrip.{noLine, table-back}
 use Rattle.claims.specs.NumbersInBytes.{valueAt}
 use Rattle.claims.specs.SoundRules.{lineIn}
-use Rattle.claims.specs.TableLayout.{ClockRecord, LineRecord, ZeroRecord, EntryRecord, SlotRecord, TableRecords, TableLayout}
+use Rattle.claims.specs.TableLayout.{ClockRecord, LineRecord, ZeroRecord, EntryRecord, SlotRecord, Places, placesOf, RecordsAt, TableRecords, TableLayout}
 use Rattle.claims.proofs.NumbersInBytes.{all-bytes, value-is}
 use Rattle.claims.proofs.SoundRules.{sound-exactly}
+
+-- THE PLACES of the model's layout, which are those written out
+abbrev modelPlaces : Layout → Places
+modelPlaces l = record { kind = clockKind l; width = placeBytes l; running = runningAt l; lines = linesAt l; slots = base l }
+
+places-are : (w : Weeks) → modelPlaces (record { weeks = w }) ≡ placesOf w
+places-are tenBit = refl
+places-are thirteenBit = refl
 
 -- ---- THE TABLE'S BYTES ARE LAID OUT SO
 
@@ -146,56 +155,58 @@ module _ (t : Table) (few : length (t .roster) ≤ 16) (f : Fits t) where
   abbrev slotRows : List ℕ
   slotRows = flat slotBytes (t .slots)
 
-  line-record : (i : ℕ) → i < length (t .roster) → Record (tableBytes t) (9 + 19 * i) 19 (lineBytes (lineIn (t .roster) i))
+  line-record : (i : ℕ) → i < length (t .roster) → Record (tableBytes t) (lineAt (t .layout) i) 19 (lineBytes (lineIn (t .roster) i))
   unfolding tableBytes rosterBytes
   line-record i h =
       rw append-assoc
-      (row lineBytes 19 (t .roster) (λ i d l. length-line (getD (t .roster) i d)) (clockBytes (t .clock)) (spareRows ++ slotRows) 9 i noLine
-      (length-clock (t .clock)) h)
+      (row lineBytes 19 (t .roster) (λ i d l. length-line (getD (t .roster) i d)) (clockBytes (t .layout) (t .clock)) (spareRows ++ slotRows) (linesAt (t .layout)) i noLine
+      (length-clock (t .layout) (t .clock)) h)
 
-  unused-record : (i : ℕ) → length (t .roster) ≤ i → i < 16 → Record (tableBytes t) (9 + 19 * i) 19 unusedLine
+  unused-record : (i : ℕ) → length (t .roster) ≤ i → i < 16 → Record (tableBytes t) (lineAt (t .layout) i) 19 unusedLine
   unfolding tableBytes rosterBytes
   unused-record i l h =
       let m = length (t .roster) in
-      let p = clockBytes (t .clock) ++ lineRows in
-      let pk : length p ≡ 9 + 19 * m =
-      length-append (clockBytes (t .clock)) lineRows
-      ∙ (rw (length-clock (t .clock), length-flat lineBytes 19 (t .roster) (λ i d l. length-line (getD (t .roster) i d)))) in
+      let p = clockBytes (t .layout) (t .clock) ++ lineRows in
+      let pk : length p ≡ lineAt (t .layout) m =
+      length-append (clockBytes (t .layout) (t .clock)) lineRows
+      ∙ (rw (length-clock (t .layout) (t .clock), length-flat lineBytes 19 (t .roster) (λ i d l. length-line (getD (t .roster) i d)))) in
       let w : i - m < length spare = rw (length-upTo (16 - m) (λ i. i)) (omega arith) in
-      let at : 9 + 19 * m + 19 * (i - m) ≡ 9 + 19 * i = omega arith in
-      let whole : p ++ (spareRows ++ slotRows) ≡ clockBytes (t .clock) ++ ((lineRows ++ spareRows) ++ slotRows) = simp append-assoc in
-      rw (at, whole) at (row (λ (i : ℕ). unusedLine) 19 spare (λ i d l. length-unused) p slotRows (9 + 19 * m) (i - m) 0 pk w)
+      let at : lineAt (t .layout) m + 19 * (i - m) ≡ lineAt (t .layout) i = omega arith in
+      let whole : p ++ (spareRows ++ slotRows) ≡ clockBytes (t .layout) (t .clock) ++ ((lineRows ++ spareRows) ++ slotRows) = simp append-assoc in
+      rw (at, whole) at (row (λ (i : ℕ). unusedLine) 19 spare (λ i d l. length-unused) p slotRows (lineAt (t .layout) m) (i - m) 0 pk w)
 
-  slot-record : (j : ℕ) → j < length (t .slots) → Record (tableBytes t) (313 + 320 * j) 320 (slotBytes (getD (t .slots) j free))
+  slot-record : (j : ℕ) → j < length (t .slots) → Record (tableBytes t) (slotAt (t .layout) j) 320 (slotBytes (getD (t .slots) j free))
   unfolding tableBytes
   slot-record j h =
-      let p = clockBytes (t .clock) ++ rosterBytes (t .roster) in
-      let pk : length p ≡ 313 = length-append (clockBytes (t .clock)) (rosterBytes (t .roster)) ∙ (rw (length-clock (t .clock), length-roster (t .roster) few)) in
-      let whole : p ++ (slotRows ++ []) ≡ clockBytes (t .clock) ++ (rosterBytes (t .roster) ++ slotRows) = rw (append-nil slotRows) (simp append-assoc) in
-      rw whole at (row slotBytes 320 (t .slots) (fits-rows t few f) p [] 313 j free pk h)
+      let p = clockBytes (t .layout) (t .clock) ++ rosterBytes (t .roster) in
+      let pk : length p ≡ base (t .layout) = length-append (clockBytes (t .layout) (t .clock)) (rosterBytes (t .roster)) ∙ (rw (length-clock (t .layout) (t .clock), length-roster (t .roster) few)) in
+      let whole : p ++ (slotRows ++ []) ≡ clockBytes (t .layout) (t .clock) ++ (rosterBytes (t .roster) ++ slotRows) = rw (append-nil slotRows) (simp append-assoc) in
+      rw whole at (row slotBytes 320 (t .slots) (fits-rows t few f) p [] (base (t .layout)) j free pk h)
 
-  clock-laid : ClockRecord (tableBytes t) (t .clock)
+  clock-laid : ClockRecord (modelPlaces (t .layout)) (tableBytes t) (t .clock)
   unfolding tableBytes clockBytes
   clock-laid =
       let b = tableBytes t in
-      let fs : List (ℕ × ℕ) = (1, 1) ∷ clockFields (t .clock) in
+      let l = t .layout in
+      let fs : List (ℕ × ℕ) = (1, clockKind l) ∷ clockFields l (t .clock) in
       let rest = rosterBytes (t .roster) ++ slotRows in
       record {
-        kind = rw (encode-first 1 (clockFields (t .clock)) (lit< tt));
-        place = sym (value-is b 1 4) ∙ field-behind [] 0 fs rest 1 refl (lit< tt) (f .place);
-        running = sym (value-is b 5 4) ∙ field-behind [] 0 fs rest 2 refl (lit< tt) (f .running);
+        kind = rw (clock-starts l (t .clock));
+        place = sym (value-is b 1 (placeBytes l)) ∙ field-behind [] 0 fs rest 1 refl (lit< tt) (f .place);
+        running =
+            sym (value-is b (runningAt l) 4) ∙ ap (λ (k : ℕ). bigEndian b k 4) (omega arith) ∙ field-behind [] 0 fs rest 2 refl (lit< tt) (f .running);
       }
 
-  table-laid : TableRecords (tableBytes t) t
+  table-laid : RecordsAt (modelPlaces (t .layout)) (tableBytes t) t
   unfolding unusedLine
   table-laid =
       record {
         size = length-table t few f;
         octets = λ i h. bytes-table t f i;
         clock = clock-laid;
-        listed = λ i h. line-laid (tableBytes t) (9 + 19 * i) (lineIn (t .roster) i) (f .lines i h) (line-record i h);
-        unused = λ i l h. zeros-laid (tableBytes t) (9 + 19 * i) 2 18 (unused-record i l h);
-        slots = λ j h. slot-laid (tableBytes t) (313 + 320 * j) (getD (t .slots) j free) (f .slots j h) (slot-record j h);
+        listed = λ i h. line-laid (tableBytes t) (lineAt (t .layout) i) (lineIn (t .roster) i) (f .lines i h) (line-record i h);
+        unused = λ i l h. zeros-laid (tableBytes t) (lineAt (t .layout) i) 2 18 (unused-record i l h);
+        slots = λ j h. slot-laid (tableBytes t) (slotAt (t .layout) j) (getD (t .slots) j free) (f .slots j h) (slot-record j h);
       }
 
 -- ---- AND NO OTHER BYTES ARE
@@ -230,17 +241,17 @@ slot-fits b at (held e) o r =
       bytes = all-bytes (e .name) (λ i h. byte-lt b (at + 40 + i) o (r .name i h));
     }
 
-module _ (b : List ℕ) (t : Table) (r : TableRecords b t) where
+module _ (b : List ℕ) (t : Table) (r : RecordsAt (modelPlaces (t .layout)) b t) where
   laid-bytes : Bytes b
   laid-bytes = all-bytes b (r .octets)
 
   laid-fits : Fits t
   laid-fits =
       record {
-        place = value-lt b 1 4 laid-bytes (r .clock .place);
-        running = value-lt b 5 4 laid-bytes (r .clock .running);
-        lines = λ i h. line-fits b (9 + 19 * i) (lineIn (t .roster) i) laid-bytes (r .listed i h);
-        slots = λ j h. slot-fits b (313 + 320 * j) (getD (t .slots) j free) laid-bytes (r .slots j h);
+        place = value-lt b 1 (placeBytes (t .layout)) laid-bytes (r .clock .place);
+        running = value-lt b (runningAt (t .layout)) 4 laid-bytes (r .clock .running);
+        lines = λ i h. line-fits b (lineAt (t .layout) i) (lineIn (t .roster) i) laid-bytes (r .listed i h);
+        slots = λ j h. slot-fits b (slotAt (t .layout) j) (getD (t .slots) j free) laid-bytes (r .slots j h);
       }
 
 -- TWO LISTS laid out as one table are the same, record by record
@@ -259,6 +270,10 @@ module _ (b c : List ℕ) where
       let e : at + j + (i - j) ≡ at + i = omega arith in
       rw e at (y (i - j) (omega arith)))
       (test (ltb i j))
+
+  -- from the start
+  join-first : (j k : ℕ) → Alike 0 j → Alike j k → Alike 0 (j + k)
+  join-first j k x y = let e : 0 + j ≡ j = omega arith in join 0 j k x (rw e y)
 
   one : (at : ℕ) {x : ℕ} → getD b at 0 ≡ x → getD c at 0 ≡ x → Alike at 1
   unfolding Alike
@@ -321,21 +336,21 @@ module _ (b c : List ℕ) where
         (one (at + 39) (x .size) (y .size)))
         (same-name at e x y)
 
-module _ (b c : List ℕ) (t : Table) (few : length (t .roster) ≤ 16) (x : TableRecords b t) (y : TableRecords c t) where
+module _ (b c : List ℕ) (t : Table) (few : length (t .roster) ≤ 16) (x : RecordsAt (modelPlaces (t .layout)) b t) (y : RecordsAt (modelPlaces (t .layout)) c t) where
   sizes : length b ≡ length c
   sizes = x .size ∙ sym (y .size)
 
-  same-lines : (i : ℕ) → i < 16 → Alike b c (9 + 19 * i) 19
+  same-lines : (i : ℕ) → i < 16 → Alike b c (lineAt (t .layout) i) 19
   same-lines i h =
       let ob = laid-bytes b t x in
       let oc = laid-bytes c t y in
       ⊎-elim
       (λ (z : ltb i (length (t .roster)) ≡ true).
       let l = ltb-true i (length (t .roster)) z in
-      same-line b c sizes ob oc (9 + 19 * i) (lineIn (t .roster) i) (omega (arith, x .size)) (x .listed i l) (y .listed i l))
+      same-line b c sizes ob oc (lineAt (t .layout) i) (lineIn (t .roster) i) (omega (arith, x .size)) (x .listed i l) (y .listed i l))
       (λ (z : ltb i (length (t .roster)) ≡ false).
       let l = ltb-false i (length (t .roster)) z in
-      same-zeros b c sizes ob oc (9 + 19 * i) 2 18 (x .unused i l h) (y .unused i l h))
+      same-zeros b c sizes ob oc (lineAt (t .layout) i) 2 18 (x .unused i l h) (y .unused i l h))
       (test (ltb i (length (t .roster))))
 
   laid-once : b ≡ c
@@ -344,29 +359,34 @@ module _ (b c : List ℕ) (t : Table) (few : length (t .roster) ≤ 16) (x : Tab
       let n = length (t .slots) in
       let ob = laid-bytes b t x in
       let oc = laid-bytes c t y in
-      let clock : Alike b c 0 9 =
-      join b c 0 5 4
-      (join b c 0 1 4 (one b c 0 (x .clock .kind) (y .clock .kind))
-      (number b c sizes ob oc 1 4 (omega (arith, x .size)) (x .clock .place) (y .clock .place)))
-      (number b c sizes ob oc 5 4 (omega (arith, x .size)) (x .clock .running) (y .clock .running)) in
-      let slots : Alike b c 313 (320 * n) =
-      rows b c 313 320 n (λ j h. same-slot b c sizes ob oc (313 + 320 * j) (getD (t .slots) j free) (omega (arith, x .size)) (x .slots j h) (y .slots j h)) in
-      let all : Alike b c 0 (313 + 320 * n) = join b c 0 313 (320 * n) (join b c 0 9 304 clock (rows b c 9 19 16 same-lines)) slots in
+      let l = t .layout in
+      let clock : Alike b c 0 (linesAt l) =
+      join-first b c (runningAt l) 4
+      (join-first b c 1 (placeBytes l) (one b c 0 (x .clock .kind) (y .clock .kind))
+      (number b c sizes ob oc 1 (placeBytes l) (omega (arith, x .size)) (x .clock .place) (y .clock .place)))
+      (number b c sizes ob oc (runningAt l) 4 (omega (arith, x .size)) (x .clock .running) (y .clock .running)) in
+      let slots : Alike b c (base l) (320 * n) =
+      rows b c (base l) 320 n (λ j h. same-slot b c sizes ob oc (slotAt (t .layout) j) (getD (t .slots) j free) (omega (arith, x .size)) (x .slots j h) (y .slots j h)) in
+      let all : Alike b c 0 (sizeOf l n) = join-first b c (base l) (320 * n) (join-first b c (linesAt l) 304 clock (rows b c (linesAt l) 19 16 same-lines)) slots in
       ext-getD 0 b c sizes (λ i l. let e : 0 + i ≡ i = omega arith in rw e at (all i (omega (arith, x .size))))
 
 -- THE CLAIM
 
+-- at the model's places
+at-model : (b : List ℕ) (t : Table) → TableRecords b t → RecordsAt (modelPlaces (t .layout)) b t
+at-model b t r = subst (λ (p : Places). RecordsAt p b t) (sym (places-are (t .layout .weeks))) r
+
 written-laid : (b : List ℕ) (t : Table) → length (t .roster) ≤ 16 → Fits t → tableBytes t ≡ b → TableRecords b t
-written-laid b t few f e = rw e at (table-laid t few f)
+written-laid b t few f e = rw (e, places-are (t .layout .weeks)) at (table-laid t few f)
 
 laid-written : (b : List ℕ) (t : Table) → length (t .roster) ≤ 16 → TableRecords b t → tableBytes t ≡ b
-laid-written b t few r = laid-once (tableBytes t) b t few (table-laid t few (laid-fits b t r)) r
+laid-written b t few r = let m = at-model b t r in laid-once (tableBytes t) b t few (table-laid t few (laid-fits b t m)) m
 
 pub table-layout : TableLayout
 table-layout =
     record {
-      written = λ b t few. (λ r. (laid-fits b t r, laid-written b t few r), λ f. written-laid b t few (f .0) (f .1));
-      read = λ b t few r. rw (laid-written b t few r) at (table-back t few (laid-fits b t r));
+      written = λ b t few. (λ r. (laid-fits b t (at-model b t r), laid-written b t few r), λ f. written-laid b t few (f .0) (f .1));
+      read = λ b t few r. rw (laid-written b t few r) at (table-back t few (laid-fits b t (at-model b t r)));
       sound = λ b. (
         λ s.
             record {
@@ -378,7 +398,7 @@ table-layout =
             record {
               table = s .table;
               sound = sound-exactly (s .table) .1 (s .rules);
-              fits = laid-fits b (s .table) (s .laid);
+              fits = laid-fits b (s .table) (at-model b (s .table) (s .laid));
               bytes = laid-written b (s .table) (s .rules .linesMax) (s .laid);
             },
       );

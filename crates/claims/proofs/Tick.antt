@@ -28,7 +28,7 @@ moved-done c b s e =
     let at = placeOf (c .week) (c .second) in
     let t = readTable b in
     let u = movedOn t at in
-    let r = move-keeps t (tallyOf t) at (placed (c .week) (c .second) (tick-accepted c b e)) (related-read b s) in
+    let r = move-keeps t (tallyOf t) at (placed (t .layout .weeks) (c .week) (c .second) (tick-accepted c b e)) (related-read b s) in
     let back : readTable (tableBytes u) ≡ u = read-back u (moveTally (tallyOf t) at) r in
     record {
       moved = rw back (moved-on t at);

@@ -52,7 +52,7 @@ module _ (b : List ℕ) (es : List Event) (j : ℕ) (e : Entry) (s : SoundBytes 
   live-still : ageOf finish e < e .lease
   live-still =
       let k = kept .kept in
-      let y = younger (leftBy b es) (sound-along (sizeOf (length (readTable b .slots))) b (tallyOf (readTable b)) es ranges (kept-self b s) h) j (k .entry) (k .here) in
+      let y = younger (leftBy b es) (sound-along (sizeOf (readTable b .layout) (length (readTable b .slots))) b (tallyOf (readTable b)) es ranges (kept-self b s) h) j (k .entry) (k .here) in
       let z = rw (k .stamp, kept .lease) at y in
       z
 

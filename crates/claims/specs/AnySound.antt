@@ -2,7 +2,7 @@
 use Prim.Native.Nat.{ℕ}
 use mathlib.Core.List.{List}
 use lib.ListN.{length}
-use Rattle.model.specs.Table.{Table, readTable}
+use Rattle.model.specs.Table.{Table, cycleIn, readTable}
 use Rattle.model.specs.Rules.{holdings}
 use Rattle.model.specs.Sound.{SoundBytes}
 use Rattle.model.specs.Meets.{Server}
@@ -10,10 +10,17 @@ use Rattle.claims.specs.Tally.{Tally}
 use Rattle.claims.specs.Events.{Event, Trace, AllInRange}
 use Rattle.claims.specs.Demand3.{Agrees, Along}
 
--- the tally of a table: its clock, n, roster and entries, each at its age
+-- the tally of a table: its clock and cycle, n, roster and entries, each at its age
 abbrev pub tallyOf : Table → Tally
 tallyOf t =
-    record { place = t .clock .place; running = t .clock .running; n = length (t .slots); roster = t .roster; holdings = holdings t }
+    record {
+      cycle = cycleIn t;
+      place = t .clock .place;
+      running = t .clock .running;
+      n = length (t .slots);
+      roster = t .roster;
+      holdings = holdings t;
+    }
 
 pub record AnySound (s : Server) : Type 0 where
   -- whatever tally agrees with the bytes, all along the list

@@ -7,7 +7,7 @@ use mathlib.Core.Logic.{_⊎_, _≢_}
 use lib.ListN.{length, drop}
 use Rattle.model.specs.Clock.{advance}
 use Rattle.model.specs.Query.{Question, LlqOption, question, llqOption, qdcount, matched}
-use Rattle.model.specs.Table.{Entry, free, held, Table, readTable, tableBytes}
+use Rattle.model.specs.Table.{Entry, free, held, Table, cycleIn, readTable, tableBytes}
 use Rattle.model.specs.Sound.{SoundBytes}
 use Rattle.model.specs.Serve.{Sender, withSlot, slotOf}
 use Rattle.model.specs.Calls.{ServeCall}
@@ -135,7 +135,9 @@ abbrev pub RunOut : ℕ → Entry → Type 0
 RunOut running e = e .lease ≤ ageOf running e
 
 pub record Moved (place : ℕ) (t u : Table) : Type 0 where
-  pub clock : u .clock ≡ advance (t .clock) place
+  pub layout : u .layout ≡ t .layout
+  -- in the cycle of the table's weeks
+  pub clock : u .clock ≡ advance (cycleIn t) (t .clock) place
   pub roster : u .roster ≡ t .roster
   pub size : length (u .slots) ≡ length (t .slots)
   pub wasFree : (j : ℕ) → slotOf t j ≡ free → slotOf u j ≡ free

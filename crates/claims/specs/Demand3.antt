@@ -8,6 +8,7 @@ use lib.ListN.{length}
 use Rattle.model.specs.Lists.{keep}
 use Rattle.model.specs.Numbers.{bigEndian}
 use Rattle.model.specs.Query.{qdcount, matched, question, llqOption}
+use Rattle.model.specs.Table.{cycleIn}
 use Rattle.model.specs.Rules.{holdings}
 use Rattle.model.specs.Sound.{SoundBytes}
 use Rattle.model.specs.Calls.{MakeCall, ServeCall}
@@ -18,10 +19,11 @@ use Rattle.claims.specs.Events.{Event, made, ticked, served, callOf, num
 use Rattle.claims.specs.Refusals.{BehindQuestions, lengthOf}
 use Rattle.claims.specs.Reply.{optionPlace}
 
--- THE TABLE'S CLOCK, n, ROSTER AND ENTRIES ARE THE TALLY'S, slot places aside
+-- THE TABLE'S CLOCK, CYCLE, n, ROSTER AND ENTRIES ARE THE TALLY'S, slot places aside
 pub record Agrees (b : List ℕ) (y : Tally) : Type 0 where
   -- the bytes of a sound table
   pub stored : SoundBytes b
+  pub cycle : cycleIn (stored .table) ≡ y .cycle
   pub place : stored .table .clock .place ≡ y .place
   pub running : stored .table .clock .running ≡ y .running
   pub n : length (stored .table .slots) ≡ y .n

@@ -7,7 +7,7 @@ use mathlib.Core.Logic.{_≢_}
 use lib.ListN.{length}
 use Rattle.model.specs.Clock.{advance}
 use Rattle.model.specs.Query.{question, llqOption}
-use Rattle.model.specs.Table.{Entry, held, Table, readTable}
+use Rattle.model.specs.Table.{Entry, held, Table, cycleIn, readTable}
 use Rattle.model.specs.Sound.{SoundBytes}
 use Rattle.model.specs.Serve.{slotOf}
 use Rattle.model.specs.Calls.{ServeCall}
@@ -17,7 +17,7 @@ use Rattle.claims.specs.Changes.{RunOut, establishedEntry, RightResponse
 
 -- the datagram's running count: that of the table before, moved on by its reading
 abbrev pub movedCount : ServeCall → Table → ℕ
-movedCount c t = advance (t .clock) (c .week * 604800 + c .second) .running
+movedCount c t = advance (cycleIn t) (t .clock) (c .week * 604800 + c .second) .running
 
 -- option i of the datagram is a right response to the entry at this running count
 abbrev pub ResponseTo : ℕ → ServeCall → ℕ → Entry → Type 0

@@ -1,6 +1,6 @@
 -- Wrong servers: document 01's impostors, the old box's five faults, six that tell or take a lease wrongly, four that move the clock wrongly when
--- it goes back, one that then frees every entry, and three that fold names through a wrong table; each the model with one part wrong, and the
--- claim that each breaks. Assumes nothing.
+-- it goes back, one that then frees every entry, three that fold names through a wrong table, and four that take the two widths of the week
+-- wrongly; each the model with one part wrong, and the claim that each breaks. Assumes nothing.
 use Prim.Native.Nat.{ℕ, zero, suc, _+_, _-_, _%_, _^_}
 use mathlib.Core.Bool.{Bool, not, cond, _&&_, _||_}
 use mathlib.Core.List.{List, [], _∷_, _++_, map}
@@ -9,15 +9,16 @@ use lib.IntN.{ℤ, pos, negsuc}
 use lib.Dec.{eqb, leb, ltb}
 use Rattle.model.specs.Lists.{count, any, upTo}
 use Rattle.model.specs.Names.{fold}
-use Rattle.model.specs.Clock.{Clock, step, slack, moved, advance, placeOf, ageAt}
+use Rattle.model.specs.Clock.{Clock, tenBit, thirteenBit, cycleOf, validReading, step, slack, moved, advance, placeOf, ageAt}
 use Rattle.model.specs.Query.{Question, LlqOption, question, llqOption, qdcount, matched}
-use Rattle.model.specs.Table.{Entry, Slot, free, held, Table, tableBytes, readTable}
+use Rattle.model.specs.Table.{Entry, Slot, free, held, Table, cycleIn, tableBytes, readTable}
 use Rattle.model.specs.Rules.{Holding, holdings, asks, numbered, limitOf, shareOf, reserve}
-use Rattle.model.specs.Serve.{Sender, Outcome, Served, Kind, badVersion, badFormat, setup, response, refresh, isFree, findEntry, slotOf, withClock, withSlot, freeRunOut, movedOn, kindOfOption, serveOption, serveKind, onSetup, onResponse, lifeLeft, rightLease, answers, challenge, retryLater, granted, establish}
+use Rattle.model.specs.Serve.{Sender, Outcome, Served, Kind, badVersion, badFormat, setup, response, refresh, isFree, findEntry, slotOf, withClock, withSlots, withSlot, freeRunOut, movedOn, kindOfOption, serveOption, serveKind, onSetup, onResponse, lifeLeft, rightLease, answers, challenge, retryLater, granted, establish}
+use Rattle.model.specs.Sound.{soundBytes}
 use Rattle.model.specs.Reply.{replyBytes, replyLength, mismatch}
-use Rattle.model.specs.Calls.{MakeCall, TickCall, ServeCall, Made, Ticked, Answered, madeBy, tickedBy, servedBy, tick, serve, tickRefusal, serveRefusal}
+use Rattle.model.specs.Calls.{MakeCall, TickCall, ServeCall, Made, Ticked, Answered, refusal, madeBy, tickedBy, servedBy, tick, serve, makeRefusal, freshTable, tickRefusal, serveRefusal}
 use Rattle.model.specs.Meets.{Server, model}
-use Rattle.claims.specs.Pins.{challengeReply}
+use Rattle.claims.specs.Pins.{challengeReply, Pinned}
 use Rattle.claims.specs.Refusals.{Refusals}
 use Rattle.claims.specs.Established.{EstablishedExactly}
 use Rattle.claims.specs.Tick.{Ticking}
@@ -26,7 +27,7 @@ use Rattle.claims.specs.Reply.{ReplyClaim}
 use Rattle.claims.specs.LiveAge.{Grows, SinceStamp, Summed}
 use Rattle.claims.specs.Repeats.{ToldLeases}
 use Rattle.claims.specs.Resumes.{Resumes}
-use Rattle.claims.specs.Samples.{ClockSamples, NameSamples, readBy}
+use Rattle.claims.specs.Samples.{ClockSamples, WideSamples, NameSamples, readBy}
 
 -- A SERVER WITH ONE CALL OF ITS OWN, the others those of the server given: a further call is one line in each
 abbrev pub withMake : Server → (MakeCall → List ℕ → Made) → Server
@@ -39,6 +40,9 @@ abbrev pub withServe : Server → (ServeCall → List ℕ → List ℕ → Answe
 withServe s f = record { make = s .make; tick = s .tick; serve = f }
 
 -- AN ANSWER WITH ONE PART OF ITS OWN, the others those of the answer given
+abbrev pub withMadeTable : Made → List ℕ → Made
+withMadeTable a table = record { number = a .number; table = table }
+
 abbrev pub withFreed : Ticked → ℕ → Ticked
 withFreed a freed = record { number = a .number; freed = freed; table = a .table }
 
@@ -177,7 +181,7 @@ freeWhere f running (held e) = cond (f running e) free (held e)
 
 abbrev pub moveWhere : (ℕ → Entry → Bool) → Table → ℕ → Table
 moveWhere f t place =
-    let c = advance (t .clock) place in record { clock = c; roster = t .roster; slots = map (freeWhere f (c .running)) (t .slots) }
+    let c = advance (cycleIn t) (t .clock) place in withSlots (withClock t c) (map (freeWhere f (c .running)) (t .slots))
 
 -- compares the count with stamp plus lease
 abbrev pub comparesSum : Server
@@ -291,11 +295,15 @@ abbrev pub onBack : (Clock → ℕ → ℕ → Clock) → Clock → ℕ → ℤ 
 onBack f c to (pos n) = moved c to (pos n)
 onBack f c to (negsuc n) = f c to (n + 1)
 
-abbrev pub moveBack : (Clock → ℕ → ℕ → Clock) → Clock → ℕ → Clock
-moveBack f c to = onBack f c to (step (c .place) to)
+abbrev pub moveBack : (Clock → ℕ → ℕ → Clock) → ℕ → Clock → ℕ → Clock
+moveBack f c k to = onBack f k to (step c (k .place) to)
+
+-- a server that moves the clock so, in the table's cycle
+abbrev pub withClockMove : (ℕ → Clock → ℕ → Clock) → Server
+withClockMove f = withMove (λ t place. freeRunOut (withClock t (f (cycleIn t) (t .clock) place)))
 
 abbrev pub withBack : (Clock → ℕ → ℕ → Clock) → Server
-withBack f = withMove (λ t place. freeRunOut (withClock t (moveBack f (t .clock) place)))
+withBack f = withClockMove (moveBack f)
 
 -- nothing changes, or the new place is kept
 abbrev pub stands : Clock → ℕ → ℕ → Clock
@@ -324,10 +332,10 @@ countsBack = withBack (λ c to k. cond (leb k slack) (stands c to k) (record { p
 abbrev pub freedOnBack : Table → ℕ → ℤ → Table
 freedOnBack t place (pos n) = movedOn t place
 freedOnBack t place (negsuc n) =
-    cond (leb (n + 1) slack) (movedOn t place) (record { clock = setTo (t .clock) place (n + 1); roster = t .roster; slots = map (λ x. free) (t .slots) })
+    cond (leb (n + 1) slack) (movedOn t place) (withSlots (withClock t (setTo (t .clock) place (n + 1))) (map (λ x. free) (t .slots)))
 
 abbrev pub endsOnSetBack : Server
-endsOnSetBack = withMove (λ t place. freedOnBack t place (step (t .clock .place) place))
+endsOnSetBack = withMove (λ t place. freedOnBack t place (step (cycleIn t) (t .clock .place) place))
 
 -- BY THE PLACES THAT IT HOLDS ITSELF `keepsAlways` adds up, so that of `LiveAge` the sum by the calls alone tells it apart
 abbrev pub OwnPlaces : Type 0
@@ -364,6 +372,39 @@ readFoldedLatin = readThrough (set foldEntries 0xC1 0xE1)
 abbrev pub latinFolded : Server
 latinFolded = withReader readFoldedLatin
 
+-- THE TWO WIDTHS OF THE WEEK
+
+-- moves every clock over the ten-bit cycle
+abbrev pub tenBitCycle : Server
+tenBitCycle = withClockMove (λ c. advance (cycleOf tenBit))
+
+-- takes a step of 2^31 seconds or more for one back, as a number of 32 bits with a sign is
+abbrev pub withSign : ℤ → ℤ
+withSign (pos n) = cond (ltb n 2147483648) (pos n) (negsuc (4294967295 - n))
+withSign (negsuc n) = negsuc n
+
+abbrev pub moveSigned : ℕ → Clock → ℕ → Clock
+moveSigned c k to = moved k to (withSign (step c (k .place) to))
+
+abbrev pub signedStep : Server
+signedStep = withClockMove moveSigned
+
+-- a tick takes every week of thirteen bits, week 1,024 on a ten-bit table too
+abbrev pub takesWideWeek : Server
+takesWideWeek =
+    withTick model (λ c b. tickedBy (refusal ((1, not (soundBytes b)) ∷ (2, not (validReading thirteenBit (c .week) (c .second))) ∷ [])) c b)
+
+-- makes the ten-bit layout in every buffer, so a record of kind 1 in one of 317 + 320n bytes; the bytes behind it stay
+abbrev pub inTenBits : Table → Table
+inTenBits t = record { layout = record { weeks = tenBit }; clock = t .clock; roster = t .roster; slots = t .slots }
+
+abbrev pub makeInTenBits : ℕ → MakeCall → List ℕ → Made
+makeInTenBits zero c b = let x = tableBytes (inTenBits (freshTable c (length b))) in withMadeTable (madeBy 0 c b) (x ++ drop (length x) b)
+makeInTenBits (suc k) c b = madeBy (suc k) c b
+
+abbrev pub makesTenBit : Server
+makesTenBit = withMake model (λ c b. makeInTenBits (makeRefusal c (length b)) c b)
+
 -- EACH BREAKS A CLAIM
 pub record Refuted : Type 0 where
   pub refusesAll : Refusals refusesAll → ⊥
@@ -392,8 +433,16 @@ pub record Refuted : Type 0 where
   pub zUnfolded : Demand3 zUnfolded → ⊥
   pub bracketFolded : Demand3 bracketFolded → ⊥
   pub latinFolded : Demand3 latinFolded → ⊥
+  -- by the count and by the place
+  pub tenBitCycle : (Demand3 tenBitCycle → ⊥) × (Ticking tenBitCycle → ⊥)
+  pub signedStep : Demand3 signedStep → ⊥
+  pub takesWideWeek : Refusals takesWideWeek → ⊥
+  pub makesTenBit : (Demand3 makesTenBit → ⊥) × (Pinned makesTenBit → ⊥)
   -- the claims of the clock alone, by the clocks of `freezes` and `keepsAlways`
   pub resumes : (Resumes (moveBack stands) → ⊥) × (Resumes (moveBack setTo) → ⊥)
-  pub clockSamples : (ClockSamples (moveBack stands) → ⊥) × (ClockSamples (moveBack setTo) → ⊥)
+  pub clockSamples : (ClockSamples (moveBack stands (cycleOf tenBit)) → ⊥) × (ClockSamples (moveBack setTo (cycleOf tenBit)) → ⊥)
+  -- by those of `tenBitCycle` and `signedStep`
+  pub wideSamples : (WideSamples (step (cycleOf tenBit)) (advance (cycleOf tenBit)) → ⊥)
+      × (WideSamples (λ from to. withSign (step (cycleOf thirteenBit) from to)) (moveSigned (cycleOf thirteenBit)) → ⊥)
   -- the claim of the reader alone, by the readers of the three
   pub nameSamples : (NameSamples readUnfoldedZ → ⊥) × (NameSamples readFoldedBracket → ⊥) × (NameSamples readFoldedLatin → ⊥)

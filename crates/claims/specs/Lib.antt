@@ -1,4 +1,5 @@
 pub mod Exactly
+pub mod Lengths
 pub mod Roster
 pub mod Tally
 pub mod Events
@@ -25,6 +26,7 @@ pub mod SoundRules
 pub mod TableLayout
 pub mod OneSlot
 pub mod Contracts
-pub mod Step
+pub mod Steps
+pub mod Ages
 pub mod Resumes
 pub mod Comparing

@@ -12,22 +12,24 @@ use Rattle.model.specs.Sound.{SoundBytes}
 use Rattle.model.specs.Serve.{slotOf}
 use Rattle.model.specs.Calls.{MakeCall}
 use Rattle.model.specs.Meets.{Server}
+use Rattle.claims.specs.Lengths.{cycleFor}
 use Rattle.claims.specs.Tally.{Tally, Call, making, ticking, serving, passed, judged, beginTally, tallyAfter}
 use Rattle.claims.specs.Events.{Event, made, ticked, served, callOf, tableOf, Happens, Trace, MakeInRange, AllInRange}
 use Rattle.claims.specs.Changes.{ageOf}
 
 -- BY THE PLACES THAT THE TABLE HOLDS
 
--- the seconds forward, from the last place, that an answered tick or datagram moves the clock; a refused call adds none, a step back adds none
-abbrev pub stepIn : ℕ → Event → ℕ
-stepIn place (made c k after) = 0
-stepIn place (ticked c k freed after) = cond (eqb k 0) (passed place (c .week * 604800 + c .second)) 0
-stepIn place (served c lent k size after left) = cond (eqb k 0) (passed place (c .week * 604800 + c .second)) 0
+-- the seconds forward, around a cycle and from the last place, that an answered tick or datagram moves the clock; a refused call adds none, a step
+-- back adds none
+abbrev pub stepIn : ℕ → ℕ → Event → ℕ
+stepIn cycle place (made c k after) = 0
+stepIn cycle place (ticked c k freed after) = cond (eqb k 0) (passed cycle place (c .week * 604800 + c .second)) 0
+stepIn cycle place (served c lent k size after left) = cond (eqb k 0) (passed cycle place (c .week * 604800 + c .second)) 0
 
--- their sum, as a whole number, along a list of calls on a table of bytes b
+-- their sum, as a whole number, along a list of calls on a table of bytes b, each around the cycle that the table's length gives
 abbrev pub stepsAlong : List ℕ → List Event → ℕ
 stepsAlong b [] = 0
-stepsAlong b (e ∷ es) = stepIn (readTable b .clock .place) e + stepsAlong (tableOf e) es
+stepsAlong b (e ∷ es) = stepIn (cycleFor (length b)) (readTable b .clock .place) e + stepsAlong (tableOf e) es
 
 -- the bytes that the list leaves
 abbrev pub leftBy : List ℕ → List Event → List ℕ
@@ -54,8 +56,8 @@ ageIn b stamp = ageAt (readTable b .clock .running) stamp
 -- the seconds that a call adds to every age, on the tally before it: those forward of an answered tick or datagram
 abbrev pub addedBy : ℕ → Tally → Call → ℕ
 addedBy size y (making c) = 0
-addedBy size y (ticking c) = cond (eqb (judged size (ticking c)) 0) (passed (y .place) (c .week * 604800 + c .second)) 0
-addedBy size y (serving c) = cond (eqb (judged size (serving c)) 0) (passed (y .place) (c .week * 604800 + c .second)) 0
+addedBy size y (ticking c) = cond (eqb (judged size (ticking c)) 0) (passed (y .cycle) (y .place) (c .week * 604800 + c .second)) 0
+addedBy size y (serving c) = cond (eqb (judged size (serving c)) 0) (passed (y .cycle) (y .place) (c .week * 604800 + c .second)) 0
 
 -- their sum, as a whole number, each on the tally that the calls before it left
 abbrev pub addedAlong : ℕ → Tally → List Call → ℕ

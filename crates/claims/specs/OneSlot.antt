@@ -8,6 +8,7 @@ use Rattle.model.specs.Serve.{slotOf, withSlot}
 
 -- from table t to table u slot j is written and all else stays
 pub record SlotWritten (t : Table) (j : ℕ) (s : Slot) (u : Table) : Type 0 where
+  pub layout : u .layout ≡ t .layout
   pub clock : u .clock ≡ t .clock
   pub roster : u .roster ≡ t .roster
   pub size : length (u .slots) ≡ length (t .slots)

@@ -5,7 +5,7 @@ use mathlib.Core.List.{List}
 use mathlib.Core.Logic.{_⊎_}
 use lib.ListN.{length}
 use Rattle.model.specs.Clock.{advance}
-use Rattle.model.specs.Table.{Entry, Slot, free, held, Table, readTable}
+use Rattle.model.specs.Table.{Entry, Slot, free, held, Table, cycleIn, readTable}
 use Rattle.model.specs.Sound.{SoundBytes}
 use Rattle.model.specs.Serve.{Sender, slotOf}
 use Rattle.model.specs.Calls.{ServeCall}
@@ -34,7 +34,8 @@ OnlyOwn s running before after =
 
 -- FROM THE TABLE BEFORE TO THE TABLE AFTER
 pub record OthersKept (c : ServeCall) (t u : Table) : Type 0 where
-  pub clock : u .clock ≡ advance (t .clock) (c .week * 604800 + c .second)
+  pub layout : u .layout ≡ t .layout
+  pub clock : u .clock ≡ advance (cycleIn t) (t .clock) (c .week * 604800 + c .second)
   pub roster : u .roster ≡ t .roster
   pub size : length (u .slots) ≡ length (t .slots)
   pub slots : (j : ℕ) → OnlyOwn (c .sender) (u .clock .running) (slotOf t j) (slotOf u j)

@@ -1,11 +1,12 @@
 -- W11, and the table's bytes after its making, its setup, its response and a refresh without RD; after its setup again and two late responses;
--- what ticks free when the clock is set back by a year; and the bytes of a table whose numbers have no byte in common, written out from document
--- 01's layout. Assumes nothing.
+-- what ticks free when the clock is set back by a year; a table with weeks of thirteen bits, made and ticked; and, with both widths of the week,
+-- the bytes of a table whose numbers have no byte in common, written out from document 01's layout. Assumes nothing.
 use Prim.Native.Nat.{ℕ, _+_}
 use mathlib.Core.Path.{_≡_}
 use mathlib.Core.Bool.{true, false}
 use mathlib.Core.List.{List, [], _∷_, _++_}
 use lib.ListN.{length, replicate}
+use Rattle.model.specs.Clock.{Clock, Weeks, tenBit, thirteenBit}
 use Rattle.model.specs.Table.{free, held, Table, tableBytes, readTable}
 use Rattle.model.specs.Serve.{Sender}
 use Rattle.model.specs.Calls.{MakeCall, TickCall, ServeCall}
@@ -176,11 +177,12 @@ listedPin =
     clockPin 0x82 0 ++ firstPin ++ secondPin ++ unusedPin ++ unusedPin ++ unusedPin ++ unusedPin ++ unusedPin ++ unusedPin ++ unusedPin ++ unusedPin ++ unusedPin ++ unusedPin
     ++ unusedPin ++ unusedPin ++ unusedPin ++ unusedPin ++ freePin
 
--- A TABLE OF THREE SLOTS, one free, one pending, one established, with two lines: no byte of its numbers is there twice
-abbrev pub distinctTable : Table
-distinctTable =
+-- A TABLE OF THREE SLOTS, one free, one pending, one established, with two lines: no byte of its numbers is there twice; by its weeks and its clock
+abbrev pub distinctWith : Weeks → Clock → Table
+distinctWith w c =
     record {
-      clock = record { place = 0x01020304; running = 0x05060708 };
+      layout = record { weeks = w };
+      clock = c;
       roster =
           record { address = 0x2122232425262728292A2B2C2D2E2F30; share = 0x09; limit = 0x0A }
           ∷ record { address = 0x3132333435363738393A3B3C3D3E3F40; share = 0x0B; limit = 0x0C } ∷ [];
@@ -211,10 +213,17 @@ distinctTable =
           ∷ [];
     }
 
-abbrev pub distinctPin : List ℕ
-distinctPin =
-    (1 ∷ 0x01 ∷ 0x02 ∷ 0x03 ∷ 0x04 ∷ 0x05 ∷ 0x06 ∷ 0x07 ∷ 0x08 ∷ [])
-    ++ (3 ∷ 0x21 ∷ 0x22 ∷ 0x23 ∷ 0x24 ∷ 0x25 ∷ 0x26 ∷ 0x27 ∷ 0x28 ∷ 0x29 ∷ 0x2A ∷ 0x2B ∷ 0x2C ∷ 0x2D ∷ 0x2E ∷ 0x2F ∷ 0x30 ∷ 0x09 ∷ 0x0A ∷ [])
+-- with weeks of ten bits, and of thirteen
+abbrev pub distinctTable : Table
+distinctTable = distinctWith tenBit (record { place = 0x01020304; running = 0x05060708 })
+
+abbrev pub wideDistinctTable : Table
+wideDistinctTable = distinctWith thirteenBit (record { place = 0xA1A2A3A4A5A6A7A8; running = 0xA9AAABAC })
+
+-- behind its clock
+abbrev pub distinctRest : List ℕ
+distinctRest =
+    (3 ∷ 0x21 ∷ 0x22 ∷ 0x23 ∷ 0x24 ∷ 0x25 ∷ 0x26 ∷ 0x27 ∷ 0x28 ∷ 0x29 ∷ 0x2A ∷ 0x2B ∷ 0x2C ∷ 0x2D ∷ 0x2E ∷ 0x2F ∷ 0x30 ∷ 0x09 ∷ 0x0A ∷ [])
     ++ (3 ∷ 0x31 ∷ 0x32 ∷ 0x33 ∷ 0x34 ∷ 0x35 ∷ 0x36 ∷ 0x37 ∷ 0x38 ∷ 0x39 ∷ 0x3A ∷ 0x3B ∷ 0x3C ∷ 0x3D ∷ 0x3E ∷ 0x3F ∷ 0x40 ∷ 0x0B ∷ 0x0C ∷ [])
     ++ unusedPin ++ unusedPin ++ unusedPin ++ unusedPin ++ unusedPin ++ unusedPin ++ unusedPin ++ unusedPin ++ unusedPin ++ unusedPin ++ unusedPin ++ unusedPin ++ unusedPin ++ unusedPin
     ++ freePin
@@ -238,6 +247,20 @@ distinctPin =
     ∷ 0x95 ∷ 0x96
     ∷ 1
     ∷ 0 ∷ (zeros 254 ++ zeros 25))
+
+abbrev pub distinctPin : List ℕ
+distinctPin = (1 ∷ 0x01 ∷ 0x02 ∷ 0x03 ∷ 0x04 ∷ 0x05 ∷ 0x06 ∷ 0x07 ∷ 0x08 ∷ []) ++ distinctRest
+
+abbrev pub wideDistinctPin : List ℕ
+wideDistinctPin = (9 ∷ 0xA1 ∷ 0xA2 ∷ 0xA3 ∷ 0xA4 ∷ 0xA5 ∷ 0xA6 ∷ 0xA7 ∷ 0xA8 ∷ 0xA9 ∷ 0xAA ∷ 0xAB ∷ 0xAC ∷ []) ++ distinctRest
+
+-- WITH WEEKS OF THIRTEEN BITS: a table of one slot, 637 bytes, with no roster, at the last second of the cycle and one second on. Clock: kind 9,
+-- place 8, running count 4
+abbrev pub wideLastPin : List ℕ
+wideLastPin = (9 ∷ 0 ∷ 0 ∷ 0 ∷ 0x01 ∷ 0x27 ∷ 0x4F ∷ 0xFF ∷ 0xFF ∷ 0 ∷ 0 ∷ 0 ∷ 0 ∷ []) ++ rosterPin ++ freePin
+
+abbrev pub wideNextPin : List ℕ
+wideNextPin = (9 ∷ 0 ∷ 0 ∷ 0 ∷ 0 ∷ 0 ∷ 0 ∷ 0 ∷ 0 ∷ 0 ∷ 0 ∷ 0 ∷ 1 ∷ []) ++ rosterPin ++ freePin
 
 -- SET BACK BY A YEAR: made and asked, with a lease of 60 seconds, at week 100, second 100,000; ticks 40 seconds later, a year back from there, and
 -- 19 seconds and 1 second on
@@ -274,6 +297,12 @@ pub record Pinned (s : Server) : Type 0 where
   -- set back by a year, the lease runs on and ends when 60 seconds have passed
   pub setBack : freedAlong s (s .serve shortSetup (s .make (makeAt 100 100000 []) (replicate 633 0xEE) .table) (replicate 60 0xAA) .table) setBackTicks
       ≡ 0 ∷ 0 ∷ 0 ∷ 1 ∷ []
+  -- with weeks of thirteen bits: made in the cycle's last second, week 8,191, second 604,799, and ticked at week 0, second 0: place 0, count 1
+  pub wideSize : length wideLastPin ≡ 637
+  pub wideMade : s .make (makeAt 8191 604799 []) (replicate 637 0xEE) ≡ record { number = 0; table = wideLastPin }
+  pub wideTicked : s .tick (tickAt 0 0) wideLastPin ≡ record { number = 0; freed = 0; table = wideNextPin }
   -- the definitions write and read the three slots so
   pub written : tableBytes distinctTable ≡ distinctPin
   pub readBack : readTable distinctPin ≡ distinctTable
+  pub wideWritten : tableBytes wideDistinctTable ≡ wideDistinctPin
+  pub wideReadBack : readTable wideDistinctPin ≡ wideDistinctTable

@@ -1,7 +1,7 @@
 -- Claim 1: each number is given exactly if its condition holds and none of a lower number that the call can give. Assumes nothing.
 -- The conditions are spelled out clause by clause, apart from the model's reader and its ladder, but for soundness (1), which `SoundRules` and
 -- `TableLayout` spell out, and, in 8, the count and length test, which `Reading` does.
-use Prim.Native.Nat.{ℕ, zero, suc, _+_, _-_, _*_, _/_, _%_, _≤_, _<_}
+use Prim.Native.Nat.{ℕ, zero, suc, _+_, _*_, _/_, _%_, _≤_, _<_}
 use mathlib.Core.Path.{_≡_}
 use mathlib.Core.Bool.{cond}
 use mathlib.Core.List.{List, [], _∷_}
@@ -13,6 +13,7 @@ use Rattle.model.specs.Sound.{SoundBytes}
 use Rattle.model.specs.Calls.{MakeCall, TickCall, ServeCall}
 use Rattle.model.specs.Meets.{Server}
 use Rattle.claims.specs.Roster.{kindAt, shareAt, limitAt}
+use Rattle.claims.specs.Lengths.{lastWeek, slotsFor}
 use Rattle.claims.specs.Events.{MakeInRange, TickInRange, ServeInRange}
 
 -- number x is k where the condition holds, and otherwise as the rest says
@@ -27,14 +28,14 @@ Done x = x ≡ 0
 abbrev pub Unsound : List ℕ → Type 0
 Unsound b = SoundBytes b → ⊥
 
--- 1, making: LENGTH WRONG
+-- 1, making: LENGTH WRONG: that of no table of 1 to 64 slots, with weeks of ten bits or of thirteen
 abbrev pub WrongLength : ℕ → Type 0
-WrongLength size = (n : ℕ) → 1 ≤ n → n ≤ 64 → size ≢ 313 + 320 * n
+WrongLength size = (n : ℕ) → 1 ≤ n → n ≤ 64 → (size ≢ 313 + 320 * n) × (size ≢ 317 + 320 * n)
 
--- 2: WEEK OR SECOND TOO LARGE
-pub data ReadingFault (week second : ℕ) : Type 0 where
-  weekTooLarge : 1023 < week → ReadingFault week second
-  secondTooLarge : 604799 < second → ReadingFault week second
+-- 2: WEEK OR SECOND TOO LARGE, by the last week that the table's length allows
+pub data ReadingFault (last week second : ℕ) : Type 0 where
+  weekTooLarge : last < week → ReadingFault last week second
+  secondTooLarge : 604799 < second → ReadingFault last week second
 
 -- 3: DATAGRAM UNDER 12 OR OVER 1,472 BYTES
 pub data SizeFault (d : List ℕ) : Type 0 where
@@ -138,15 +139,16 @@ pub data RosterFault (n : ℕ) (r : List ℕ) : Type 0 where
 -- THE THREE LADDERS
 
 abbrev pub MakeNumber : MakeCall → ℕ → ℕ → Type 0
-MakeNumber c size = Lowest 1 (WrongLength size) (Lowest 2 (ReadingFault (c .week) (c .second)) (Lowest 9 (RosterFault ((size - 313) / 320) (c .roster)) Done))
+MakeNumber c size =
+    Lowest 1 (WrongLength size) (Lowest 2 (ReadingFault (lastWeek size) (c .week) (c .second)) (Lowest 9 (RosterFault (slotsFor size) (c .roster)) Done))
 
 abbrev pub TickNumber : TickCall → List ℕ → ℕ → Type 0
-TickNumber c b = Lowest 1 (Unsound b) (Lowest 2 (ReadingFault (c .week) (c .second)) Done)
+TickNumber c b = Lowest 1 (Unsound b) (Lowest 2 (ReadingFault (lastWeek (length b)) (c .week) (c .second)) Done)
 
 abbrev pub ServeNumber : ServeCall → List ℕ → ℕ → Type 0
 ServeNumber c b =
     Lowest 1 (Unsound b)
-    (Lowest 2 (ReadingFault (c .week) (c .second))
+    (Lowest 2 (ReadingFault (lastWeek (length b)) (c .week) (c .second))
     (Lowest 3 (SizeFault (c .datagram))
     (Lowest 4 (HeaderFault (c .datagram))
     (Lowest 5 (QuestionFault (c .datagram))

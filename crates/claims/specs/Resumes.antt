@@ -1,21 +1,23 @@
 -- A clock that was set back runs on from where it was set to, and one that went back a little and on again loses as much as it went back
--- (document 02, Ticket 4): of any way to move the clock. Assumes nothing.
-use Prim.Native.Nat.{ℕ, _+_, _-_, _%_, _^_, _≤_, _<_}
+-- (document 02, Ticket 4): of any way to move the clock, in a cycle of any even number of seconds. Assumes nothing.
+use Prim.Native.Nat.{ℕ, _+_, _-_, _/_, _%_, _^_, _≤_, _<_}
 use mathlib.Core.Path.{_≡_}
+use mathlib.Core.Bool.{cond}
+use lib.Dec.{ltb}
 use Rattle.model.specs.Clock.{Clock}
 use Rattle.claims.specs.Tally.{behind}
 
--- the place so many seconds later, around the cycle
-abbrev pub later : ℕ → ℕ → ℕ
-later place seconds = (place + seconds) % 619315200
+-- the place so many seconds later, around a cycle of c
+abbrev pub later : ℕ → ℕ → ℕ → ℕ
+later c place seconds = cond (ltb (place + seconds) c) (place + seconds) (place + seconds - c)
 
--- THE CLAIM, of readings at a place p and d seconds later, d under half a cycle
-pub record Resumes (move : Clock → ℕ → Clock) : Type 0 where
+-- THE CLAIM, of a clock k and readings at a place p and d seconds later, d under half a cycle
+pub record Resumes (move : ℕ → Clock → ℕ → Clock) : Type 0 where
   -- p is 61 seconds or more behind, up to half a cycle: all of d counts
-  pub setBack : (c : Clock) (p d : ℕ) → c .place < 619315200 → c .running < 2 ^ 32 → p < 619315200 → d < 309657600
-      → 61 ≤ behind (c .place) p → behind (c .place) p ≤ 309657600
-      → move (move c p) (later p d) ≡ record { place = later p d; running = (c .running + d) % 2 ^ 32 }
-  -- p is k seconds behind, 1 to 60: of d all but k counts
-  pub wentBack : (c : Clock) (p d k : ℕ) → c .place < 619315200 → c .running < 2 ^ 32 → p < 619315200 → d < 309657600
-      → behind (c .place) p ≡ k → 1 ≤ k → k ≤ 60 → k ≤ d
-      → move (move c p) (later p d) ≡ record { place = later p d; running = (c .running + (d - k)) % 2 ^ 32 }
+  pub setBack : (c : ℕ) (k : Clock) (p d : ℕ) → c / 2 + c / 2 ≡ c → k .place < c → k .running < 2 ^ 32 → p < c → d < c / 2
+      → 61 ≤ behind c (k .place) p → behind c (k .place) p ≤ c / 2
+      → move c (move c k p) (later c p d) ≡ record { place = later c p d; running = (k .running + d) % 2 ^ 32 }
+  -- p is b seconds behind, 1 to 60: of d all but b counts
+  pub wentBack : (c : ℕ) (k : Clock) (p d b : ℕ) → c / 2 + c / 2 ≡ c → k .place < c → k .running < 2 ^ 32 → p < c → d < c / 2
+      → behind c (k .place) p ≡ b → 1 ≤ b → b ≤ 60 → b ≤ d
+      → move c (move c k p) (later c p d) ≡ record { place = later c p d; running = (k .running + (d - b)) % 2 ^ 32 }

@@ -1,20 +1,20 @@
 -- Claim 6: document 01's samples W1 to W10, and two steps beside them, one table under one statement, of the definitions that contracts and
--- claims cite; samples of the clock moved, of a response's span and of names compared, one table each under one statement; and that no other fold
--- meets those of names. Assumes nothing.
+-- claims cite; samples of the clock moved, with weeks of ten bits and of thirteen, of a response's span and of names compared, one table each
+-- under one statement; and that no other fold meets those of names. Assumes nothing.
 use Prim.Native.Nat.{ℕ, _+_, _%_, _<_}
 use mathlib.Core.Path.{_≡_}
-use mathlib.Core.Bool.{Bool, true, false}
+use mathlib.Core.Bool.{Bool, true, false, cond}
 use mathlib.Core.List.{List, [], _∷_, _++_, map}
 use lib.ListN.{length, replicate}
-use lib.IntN.{ℤ, pos, negsuc}
+use lib.IntN.{ℤ, pos, negsuc, negℤ}
 use Rattle.model.specs.Lists.{bit, count, upTo}
-use Rattle.model.specs.Clock.{Clock, step, ageAt, runOut}
+use Rattle.model.specs.Clock.{Clock, tenBit, cycleOf, step, ageAt, runOut}
 use Rattle.model.specs.Numbers.{part}
 use Rattle.model.specs.Query.{Question, LlqOption, nameAt, questionStart, question}
 use Rattle.model.specs.Table.{Entry, free, held, Table}
 use Rattle.model.specs.Rules.{Holding, entriesOf, asks, grantedLease, freshNumber}
 use Rattle.model.specs.Serve.{Sender, Served, isFree, answers, serveOption}
-use Rattle.claims.specs.Tally.{moveTally, isOf, isAnswered}
+use Rattle.claims.specs.Tally.{ahead, forward, behind, moveTally, isOf, isAnswered}
 use Rattle.claims.specs.Reading.{Folded}
 
 -- an established entry with this number
@@ -30,6 +30,7 @@ w9 = freshNumber 3 (count (entriesOf 0 (held (entryNumbered 18446744073709551615
 abbrev pub w10Table : Table
 w10Table =
     record {
+      layout = record { weeks = tenBit };
       clock = record { place = 0; running = 0 };
       roster = record { address = 7; share = 3; limit = 3 } ∷ [];
       slots = free ∷ free ∷ free ∷ free ∷ [];
@@ -47,11 +48,11 @@ w10First = w10Setup 97 w10Table
 -- computed beside expected
 abbrev pub samples : List (ℤ × ℤ)
 samples =
-    (step 619315199 0, pos 1)  -- W1
-    ∷ (step 0 309657600, negsuc 309657599)  -- W2: −309,657,600
-    ∷ (step 10 9, negsuc 0)  -- W3: −1
-    ∷ (step 604802 604802, pos 0)  -- beside W1 to W3: the same place,
-    ∷ (step 0 309657599, pos 309657599)  -- and the upper end of the range; W2 is the lower
+    (step (cycleOf tenBit) 619315199 0, pos 1)  -- W1
+    ∷ (step (cycleOf tenBit) 0 309657600, negsuc 309657599)  -- W2: −309,657,600
+    ∷ (step (cycleOf tenBit) 10 9, negsuc 0)  -- W3: −1
+    ∷ (step (cycleOf tenBit) 604802 604802, pos 0)  -- beside W1 to W3: the same place,
+    ∷ (step (cycleOf tenBit) 0 309657599, pos 309657599)  -- and the upper end of the range; W2 is the lower
     ∷ (pos (ageAt 4 4294967290), pos 10)  -- W4
     ∷ (pos (bit (runOut 59 60)), pos 0)  -- W5: live
     ∷ (pos (bit (runOut 60 60)), pos 1)  -- W6: run out
@@ -70,7 +71,7 @@ Agree (r ∷ rs) = (r .0 ≡ r .1) × Agree rs
 abbrev pub Samples : Type 0
 Samples = Agree samples
 
--- THE CLOCK MOVED: place and count, a reading's place, and place and count after it
+-- THE CLOCK MOVED, with weeks of ten bits: place and count, a reading's place, and place and count after it
 pub record ClockSample : Type 0 where
   pub before : Clock
   pub reading : ℕ
@@ -101,15 +102,59 @@ abbrev pub ClocksAgree : (Clock → ℕ → Clock) → List ClockSample → Type
 ClocksAgree move [] = Unit {0}
 ClocksAgree move (x ∷ xs) = (move (x .before) (x .reading) ≡ x .after) × ClocksAgree move xs
 
--- the clock as the tally moves it
-abbrev pub byTally : Clock → ℕ → Clock
-byTally c to =
-    let y = moveTally (record { place = c .place; running = c .running; n = 0; roster = []; holdings = [] }) to in
+-- the clock k as the tally moves it, in a cycle of c seconds
+abbrev pub byTally : ℕ → Clock → ℕ → Clock
+byTally c k to =
+    let y = moveTally (record { cycle = c; place = k .place; running = k .running; n = 0; roster = []; holdings = [] }) to in
     record { place = y .place; running = y .running }
 
 -- of any way to move the clock; it holds of the rule that the contracts cite, and of the tally's
 abbrev pub ClockSamples : (Clock → ℕ → Clock) → Type 0
 ClockSamples move = ClocksAgree move clockSamples
+
+-- WITH WEEKS OF THIRTEEN BITS: place and count, a reading's place, the step to it, and place and count after it
+pub record WideSample : Type 0 where
+  pub before : Clock
+  pub reading : ℕ
+  pub step : ℤ
+  pub after : Clock
+
+abbrev pub stepping : ℕ → ℕ → ℕ → ℤ → ℕ → ℕ → WideSample
+stepping place running reading step placeAfter runningAfter =
+    record {
+      before = record { place = place; running = running };
+      reading = reading;
+      step = step;
+      after = record { place = placeAfter; running = runningAfter };
+    }
+
+abbrev pub wideSamples : List WideSample
+wideSamples =
+    stepping 4954521599 7 0 (pos 1) 0 8  -- around the end of the cycle
+    ∷ stepping 0 7 2477260800 (negsuc 2477260799) 2477260800 7  -- half a cycle is the longest step back: −2,477,260,800;
+    ∷ stepping 0 7 2477260799 (pos 2477260799) 2477260799 2477260806  -- one second less the longest on
+    ∷ stepping 0 7 2147483648 (pos 2147483648) 2147483648 2147483655  -- 2^31, which an i32 would take for a step back
+    ∷ stepping 619315199 7 619315200 (pos 1) 619315200 8  -- over the end of the ten-bit cycle
+    ∷ stepping 10 7 9 (negsuc 0) 10 7  -- −1
+    ∷ stepping 0 4294967295 2477260799 (pos 2477260799) 2477260799 2477260798  -- the count wraps under the longest step
+    ∷ stepping 1000 7 940 (negsuc 59) 1000 7  -- −60 changes nothing,
+    ∷ stepping 1000 7 939 (negsuc 60) 939 7  -- −61 keeps the new place
+    ∷ stepping 30 7 4954521570 (negsuc 59) 30 7  -- both around the end of the cycle
+    ∷ stepping 30 7 4954521569 (negsuc 60) 4954521569 7
+    ∷ []
+
+abbrev pub WidesAgree : (ℕ → ℕ → ℤ) → (Clock → ℕ → Clock) → List WideSample → Type 0
+WidesAgree steps move [] = Unit {0}
+WidesAgree steps move (x ∷ xs) =
+    (steps (x .before .place) (x .reading) ≡ x .step) × (move (x .before) (x .reading) ≡ x .after) × WidesAgree steps move xs
+
+-- the step by the tally's rules: the seconds ahead, or those behind, less than 0
+abbrev pub stepByTally : ℕ → ℕ → ℕ → ℤ
+stepByTally c from to = cond (forward c from to) (pos (ahead c from to)) (negℤ (pos (behind c from to)))
+
+-- of any way to take a step and to move the clock; it holds of the rules that the contracts cite, and of the tally's
+abbrev pub WideSamples : (ℕ → ℕ → ℤ) → (Clock → ℕ → Clock) → Type 0
+WideSamples steps move = WidesAgree steps move wideSamples
 
 -- a sender, and an entry of it with a name, pending or established
 abbrev pub sampleSender : Sender

@@ -4,6 +4,7 @@ use mathlib.Core.Path.{_≡_}
 use mathlib.Core.Bool.{Bool, true, false}
 use mathlib.Core.List.{List, [], _∷_, _++_, map}
 use lib.ListN.{replicate, set}
+use Rattle.model.specs.Clock.{Weeks, tenBit, thirteenBit}
 use Rattle.model.specs.Table.{Line, Entry, Slot, free, held, Table, tableBytes}
 use Rattle.model.specs.Sound.{soundTable, soundBytes}
 
@@ -15,9 +16,12 @@ entry established port number lease stamp name =
 abbrev pub line : ℕ → ℕ → ℕ → Line
 line address share limit = record { address = address; share = share; limit = limit }
 
--- at a running count of 100
+-- at a running count of 100; with weeks of ten bits where none are named
+abbrev pub tableWith : Weeks → ℕ → List Line → List Slot → Table
+tableWith w place ls ss = record { layout = record { weeks = w }; clock = record { place = place; running = 100 }; roster = ls; slots = ss }
+
 abbrev pub table : ℕ → List Line → List Slot → Table
-table place ls ss = record { clock = record { place = place; running = 100 }; roster = ls; slots = ss }
+table = tableWith tenBit
 
 abbrev pub name : List ℕ
 name = 1 ∷ 97 ∷ 0 ∷ []
@@ -88,14 +92,24 @@ abbrev pub roster : List Line → Bool
 roster ls = soundTable (table 5 ls (free ∷ free ∷ []))
 
 -- the bytes of a table of one entry and one free slot, with byte i changed to x
+abbrev pub damagedWith : Weeks → ℕ → ℕ → Bool
+damagedWith w i x = soundBytes (set (tableBytes (tableWith w 5 [] (entry false 1 7 60 100 name ∷ free ∷ []))) i x)
+
 abbrev pub damaged : ℕ → ℕ → Bool
-damaged i x = soundBytes (set (tableBytes (table 5 [] (entry false 1 7 60 100 name ∷ free ∷ []))) i x)
+damaged = damagedWith tenBit
+
+-- the bytes of a free table of one slot with these behind them
+abbrev pub longer : Weeks → List ℕ → Bool
+longer w xs = soundBytes (tableBytes (tableWith w 5 [] (free ∷ [])) ++ xs)
 
 -- computed beside expected
 abbrev pub tableSamples : List (Bool × Bool)
 tableSamples =
     (soundTable (table 619315199 [] (free ∷ [])), true)  -- the last place is under 619,315,200
     ∷ (soundTable (table 619315200 [] (free ∷ [])), false)
+    ∷ (soundTable (tableWith thirteenBit 619315200 [] (free ∷ [])), true)  -- with weeks of thirteen bits under 4,954,521,600
+    ∷ (soundTable (tableWith thirteenBit 4954521599 [] (free ∷ [])), true)
+    ∷ (soundTable (tableWith thirteenBit 4954521600 [] (free ∷ [])), false)
     ∷ (soundTable (table 5 [] []), false)  -- 1 to 64 slots
     ∷ (soundTable (table 5 [] (replicate 64 free)), true)
     ∷ (soundTable (table 5 [] (replicate 65 free)), false)
@@ -130,6 +144,16 @@ tableSamples =
     ∷ (damaged 356 1, false)  -- behind a name,
     ∷ (damaged 632 1, false)  -- at an entry's end,
     ∷ (damaged 352 4, false)  -- and the name's stated length
+    ∷ (damagedWith thirteenBit 0 9, true)  -- the clock's kind is by the length: 9 at 317 + 320n, and not 1,
+    ∷ (damagedWith thirteenBit 0 1, false)
+    ∷ (damaged 0 9, false)  -- 1 at 313 + 320n, and not 9
+    ∷ (longer tenBit [], true)  -- a table of kind 1 and four bytes more is none,
+    ∷ (longer tenBit (0 ∷ 0 ∷ 0 ∷ 0 ∷ []), false)
+    ∷ (longer thirteenBit [], true)
+    ∷ (damagedWith thirteenBit 317 6, true)  -- and the places behind the clock are four further on
+    ∷ (damagedWith thirteenBit 313 6, false)
+    ∷ (damagedWith thirteenBit 4 1, true)  -- a place of 2^32 + 5, and of 2^33 + 5
+    ∷ (damagedWith thirteenBit 4 2, false)
     ∷ []
 
 abbrev pub AgreeAll : List (Bool × Bool) → Type 0

@@ -4,7 +4,7 @@ use mathlib.Core.Path.{_≡_}
 use mathlib.Core.Bool.{cond}
 use mathlib.Core.List.{List}
 use lib.ListN.{length, getD}
-use Rattle.model.specs.Clock.{Clock}
+use Rattle.model.specs.Clock.{Clock, Weeks, tenBit, thirteenBit}
 use Rattle.model.specs.Table.{Line, Entry, Slot, free, held, Table, tableBytes, readTable}
 use Rattle.model.specs.Sound.{Fits, SoundBytes}
 use Rattle.claims.specs.Exactly.{Exactly}
@@ -13,11 +13,24 @@ use Rattle.claims.specs.SoundRules.{lineIn, SoundRules}
 
 -- RECORDS in a table's bytes b: a byte of kind at a place, and a body behind it
 
--- kind 1, body 8: last place 4, running count 4
-pub record ClockRecord (b : List ℕ) (c : Clock) : Type 0 where
-  pub kind : getD b 0 0 ≡ 1
-  pub place : valueAt b 1 4 ≡ c .place
-  pub running : valueAt b 5 4 ≡ c .running
+-- what differs by the weeks that the clock counts: the clock record's kind and the width of its place, and where the running count, the roster lines
+-- and the slots start
+pub record Places : Type 0 where
+  pub kind : ℕ
+  pub width : ℕ
+  pub running : ℕ
+  pub lines : ℕ
+  pub slots : ℕ
+
+-- kind 1, body 8: last place 4, running count 4; or kind 9, body 12: last place 8, running count 4
+abbrev pub placesOf : Weeks → Places
+placesOf tenBit = record { kind = 1; width = 4; running = 5; lines = 9; slots = 313 }
+placesOf thirteenBit = record { kind = 9; width = 8; running = 9; lines = 13; slots = 317 }
+
+pub record ClockRecord (p : Places) (b : List ℕ) (c : Clock) : Type 0 where
+  pub kind : getD b 0 0 ≡ p .kind
+  pub place : valueAt b 1 (p .width) ≡ c .place
+  pub running : valueAt b (p .running) 4 ≡ c .running
 
 -- kind 3, body 18: listed address 16, share 1, limit 1
 pub record LineRecord (b : List ℕ) (at : ℕ) (l : Line) : Type 0 where
@@ -52,13 +65,17 @@ SlotRecord b at free = ZeroRecord b at 4 319
 SlotRecord b at (held e) = EntryRecord b at e
 
 -- A TABLE of n slots: one clock record, 16 roster lines, the listed ones first and then unused ones (kind 2, body 18, all zero), the slots
-pub record TableRecords (b : List ℕ) (t : Table) : Type 0 where
-  pub size : length b ≡ 313 + 320 * length (t .slots)
+pub record RecordsAt (p : Places) (b : List ℕ) (t : Table) : Type 0 where
+  pub size : length b ≡ p .slots + 320 * length (t .slots)
   pub octets : (i : ℕ) → i < length b → getD b i 0 < 256
-  pub clock : ClockRecord b (t .clock)
-  pub listed : (i : ℕ) → i < length (t .roster) → LineRecord b (9 + 19 * i) (lineIn (t .roster) i)
-  pub unused : (i : ℕ) → length (t .roster) ≤ i → i < 16 → ZeroRecord b (9 + 19 * i) 2 18
-  pub slots : (j : ℕ) → j < length (t .slots) → SlotRecord b (313 + 320 * j) (getD (t .slots) j free)
+  pub clock : ClockRecord p b (t .clock)
+  pub listed : (i : ℕ) → i < length (t .roster) → LineRecord b (p .lines + 19 * i) (lineIn (t .roster) i)
+  pub unused : (i : ℕ) → length (t .roster) ≤ i → i < 16 → ZeroRecord b (p .lines + 19 * i) 2 18
+  pub slots : (j : ℕ) → j < length (t .slots) → SlotRecord b (p .slots + 320 * j) (getD (t .slots) j free)
+
+-- at the places of its weeks
+abbrev pub TableRecords : List ℕ → Table → Type 0
+TableRecords b t = RecordsAt (placesOf (t .layout .weeks)) b t
 
 -- THE BYTES OF A SOUND TABLE, told by their places
 pub record SoundRecords (b : List ℕ) : Type 0 where

@@ -13,9 +13,11 @@ use Rattle.model.specs.Serve.{Sender, Outcome}
 use Rattle.model.specs.Reply.{replyLength}
 use Rattle.model.specs.Calls.{MakeCall, TickCall, ServeCall, refusal, tableLength, goodRoster}
 use Rattle.claims.specs.Roster.{linesGiven}
+use Rattle.claims.specs.Lengths.{cycleFor, lastWeek, slotsFor}
 
--- the tally (document 01's term): a clock, n, the roster and a list of holdings
+-- the tally (document 01's term): a clock, the seconds of its cycle among it, n, the roster and a list of holdings
 pub record Tally : Type 0 where
+  pub cycle : ℕ
   pub place : ℕ
   pub running : ℕ
   pub n : ℕ
@@ -30,25 +32,25 @@ pub data Call : Type 0 where
 
 -- THE CLOCK
 
--- how many seconds forward, around the cycle, the new place is
-abbrev pub ahead : ℕ → ℕ → ℕ
-ahead from to = (to + 619315200 - from) % 619315200
+-- how many seconds forward, around a cycle of c seconds, the new place is
+abbrev pub ahead : ℕ → ℕ → ℕ → ℕ
+ahead c from to = cond (ltb to from) (to + c - from) (to - from)
 
 -- the step is 0 or more: less than half a cycle forward
-abbrev pub forward : ℕ → ℕ → Bool
-forward from to = ltb (ahead from to) 309657600
+abbrev pub forward : ℕ → ℕ → ℕ → Bool
+forward c from to = ltb (ahead c from to) (c / 2)
 
 -- how many seconds back, around the cycle, the new place is
-abbrev pub behind : ℕ → ℕ → ℕ
-behind from to = (from + 619315200 - to) % 619315200
+abbrev pub behind : ℕ → ℕ → ℕ → ℕ
+behind c from to = cond (ltb from to) (from + c - to) (from - to)
 
 -- the new place is kept where the step is 0 or more, and where it is more than 60 seconds back
-abbrev pub keepsPlace : ℕ → ℕ → Bool
-keepsPlace from to = forward from to || ltb 60 (behind from to)
+abbrev pub keepsPlace : ℕ → ℕ → ℕ → Bool
+keepsPlace c from to = forward c from to || ltb 60 (behind c from to)
 
 -- the seconds that a reading adds to every age: a step back adds none
-abbrev pub passed : ℕ → ℕ → ℕ
-passed from to = cond (forward from to) (ahead from to) 0
+abbrev pub passed : ℕ → ℕ → ℕ → ℕ
+passed c from to = cond (forward c from to) (ahead c from to) 0
 
 abbrev pub older : ℕ → Holding → Holding
 older d h =
@@ -71,11 +73,12 @@ underLease h = ltb (h .age) (h .lease)
 unfoldable pub moveTally : Tally → ℕ → Tally
 moveTally y to =
     record {
-      place = cond (keepsPlace (y .place) to) to (y .place);
-      running = (y .running + passed (y .place) to) % 4294967296;
+      cycle = y .cycle;
+      place = cond (keepsPlace (y .cycle) (y .place) to) to (y .place);
+      running = (y .running + passed (y .cycle) (y .place) to) % 4294967296;
       n = y .n;
       roster = y .roster;
-      holdings = keep underLease (map (older (passed (y .place) to)) (y .holdings));
+      holdings = keep underLease (map (older (passed (y .cycle) (y .place) to)) (y .holdings));
     }
 
 -- HELD, SHARE, LIMIT, FREE, RESERVE, FULL
@@ -167,7 +170,7 @@ abbrev pub isRefreshed : Sender → Question → LlqOption → Holding → Bool
 isRefreshed s q o h = isOf s q h && eqb (h .number) (o .number) && h .established
 
 abbrev pub withHoldings : Tally → List Holding → Tally
-withHoldings y hs = record { place = y .place; running = y .running; n = y .n; roster = y .roster; holdings = hs }
+withHoldings y hs = record { cycle = y .cycle; place = y .place; running = y .running; n = y .n; roster = y .roster; holdings = hs }
 
 -- a pending holding of age 0 with the setup rule's lease and number
 abbrev pub newHolding : Sender → ℕ → Question → LlqOption → Tally → Holding
@@ -270,16 +273,20 @@ tallyBefore c y (suc i) = optionTally (c .sender) (c .random) (question (c .data
 abbrev pub tallyOutcome : ServeCall → Tally → ℕ → Outcome
 tallyOutcome c y i = optionOutcome (c .sender) (c .random) (question (c .datagram) i) (llqOption (c .datagram) i) (tallyBefore c y i)
 
+-- the week is beyond the last that the table's length allows, or the second beyond a week's
+abbrev pub badReading : ℕ → ℕ → ℕ → Bool
+badReading size week second = ltb (lastWeek size) week || ltb 604799 second
+
 -- the number that a call's arguments and the table's length call for, any but "table unsound". All conditions but the reading's are the
 -- model's tests, the roster's `goodRoster` among them: claim 1 spells out each (`Refusals`, for the roster `RosterFault`)
 unfoldable pub judged : ℕ → Call → ℕ
 judged size (making c) =
-    refusal ((1, not (tableLength size)) ∷ (2, leb 1024 (c .week) || leb 604800 (c .second)) ∷ (9, not (goodRoster ((size - 313) / 320) (c .roster))) ∷ [])
-judged size (ticking c) = refusal ((2, leb 1024 (c .week) || leb 604800 (c .second)) ∷ [])
+    refusal ((1, not (tableLength size)) ∷ (2, badReading size (c .week) (c .second)) ∷ (9, not (goodRoster (slotsFor size) (c .roster))) ∷ [])
+judged size (ticking c) = refusal ((2, badReading size (c .week) (c .second)) ∷ [])
 judged size (serving c) =
     let d = c .datagram in
     refusal
-    ((2, leb 1024 (c .week) || leb 604800 (c .second))
+    ((2, badReading size (c .week) (c .second))
     ∷ (3, wrongSize d)
     ∷ (4, not (goodHeader d))
     ∷ (5, not (goodQuestions d (qdcount d)))
@@ -288,10 +295,18 @@ judged size (serving c) =
     ∷ (8, ltb (c .room) (replyLength d) || ltb 1472 (replyLength d))
     ∷ [])
 
--- an answered making begins it anew: the reading's place, count 0, n by the buffer's length, the roster given, in its order, no holdings
+-- an answered making begins it anew: the cycle and n by the buffer's length, the reading's place, count 0, the roster given, in its order, no
+-- holdings
 abbrev pub beginTally : ℕ → MakeCall → Tally
 beginTally size c =
-    record { place = c .week * 604800 + c .second; running = 0; n = (size - 313) / 320; roster = linesGiven (c .roster); holdings = [] }
+    record {
+      cycle = cycleFor size;
+      place = c .week * 604800 + c .second;
+      running = 0;
+      n = slotsFor size;
+      roster = linesGiven (c .roster);
+      holdings = [];
+    }
 
 abbrev pub doneTally : ℕ → Tally → Call → Tally
 doneTally size y (making c) = beginTally size c

@@ -13,7 +13,7 @@ use Rattle.claims.specs.Events.{TickInRange}
 use Rattle.claims.specs.Changes.{Moved}
 
 pub record TickDone (c : TickCall) (before after : List ℕ) (freed : ℕ) : Type 0 where
-  -- roster as before, clock moved, each slot as before, or free exactly where its entry had run out at the moved count
+  -- layout and roster as before, clock moved, each slot as before, or free exactly where its entry had run out at the moved count
   pub moved : Moved (c .week * 604800 + c .second) (readTable before) (readTable after)
   -- nothing else is in the bytes
   pub bytes : after ≡ tableBytes (readTable after)

@@ -14,18 +14,27 @@ use denote.Memory.{partAt, partOf, cellAt}
 use denote.Steps.{owned}
 use denote.Struct.Steps.{spelt}
 use denote.Struct.Laws as LL
-use Rattle.model.specs.Clock.{cycle}
+use denote.Enum.Laws as EL
+use Rattle.model.specs.Clock.{cycleOf}
+use Rattle.layout.specs.declared.Weeks.{Weeks}
+use Rattle.layout.specs.Weeks.{weeksOf}
+use Rattle.layout.proofs.Weeks as E
+use Rattle.layout.proofs.Weeks.Laws as E′
 use Rattle.clock.specs.declared.Clock.{Clock}
 use Rattle.clock.proofs.Clock as T
 use Rattle.clock.proofs.Clock.Laws as T′
 
 -- what each function that moves the clock requires: both places are on the cycle
-abbrev pub OnCycle : Clock → ℕ → Type 0
-OnCycle h n = (h .place < cycle) × (n < cycle)
+abbrev pub OnCycle : Clock → Weeks → ℕ → Type 0
+OnCycle h w n = (h .place < cycleOf (weeksOf w)) × (n < cycleOf (weeksOf w))
 
 -- a clock's machine value
 abbrev pub mach : Clock → Val
 mach h = LL.val T.the-type T′.the-laws h
+
+-- a width's machine value
+abbrev pub machWeeks : Weeks → Val
+machWeeks w = EL.val E.the-type E′.the-laws w
 
 module _ {M : Type 1} (𝓤 : URA M) (H : Heap 𝓤) (A : Atoms 𝓤) (W : Given 𝓤 H A) where
   -- a local that holds a clock's machine value is what a borrow of it holds

@@ -1,5 +1,5 @@
 -- The whole table: its bytes are those of the table read from them exactly if kinds and zeros are right. Assumes nothing.
-use Prim.Native.Nat.{ℕ, _+_, _-_, _*_, _≤_, _<_}
+use Prim.Native.Nat.{ℕ, suc, _+_, _-_, _*_, _≤_, _<_}
 use native.Mathlib.Nat.{zero-add}
 use native.Mathlib.Omega.{arith}
 use mathlib.Core.Path.{_≡_, refl, sym, ap, _∙_}
@@ -12,15 +12,15 @@ use borrow.Author.Tests.{eq-eqb}
 use Rattle.model.specs.Numbers.{bigEndian, Bytes, part, encode}
 use Rattle.model.proofs.NumberLaws.{length-part, encode-first, big-one, part-all, bytes-drop}
 use Rattle.model.specs.Lists.{every, upTo, flat, same}
-use Rattle.model.specs.Table.{slotBytes, lineBytes, unusedLine, rosterBytes, clockBytes, tableBytes, readTable, readSlot, readLine, base, lineAt, sizeOf}
+use Rattle.model.specs.Table.{slotBytes, lineBytes, unusedLine, rosterBytes, Layout, clockKind, placeBytes, clockBytes, tableBytes, readTable, readSlot, readLine, runningAt, linesAt, base, sizeOf, layoutOf}
 use Rattle.model.proofs.ListLaws.{eqb-sym, same-refl, same-append, part-add, same-rows, length-upTo, length-rows}
 use Rattle.model.proofs.SlotLaws.{length-slot, length-line, length-unused, fits-short}
-use Rattle.model.proofs.TableLaws.{length-clock, length-roster}
-use Rattle.model.proofs.Meaning.{fits-slot, lines-read}
+use Rattle.model.proofs.TableLaws.{length-clock, length-roster, clockFields, clock-starts}
+use Rattle.model.proofs.Meaning.{fits-slot, lines-read, layout-read}
 use Rattle.layout.specs.Shape.{all, slotShape, unusedShape, unusedFrom, partsShape, tableShape, slotsTo, linesTo, listedIn}
 use Rattle.layout.proofs.PartLaws.{roster-read, slots-read}
 use Rattle.layout.proofs.ListedLaws.{listed-le, listed-kind}
-use Rattle.layout.proofs.ShapeLaws.{all-yes, all-ext, same-cons, part-head, read-all, slot-shape-is}
+use Rattle.layout.proofs.ShapeLaws.{all-yes, all-ext, same-cons, part-head, readAll, read-all, slot-shape-is}
 
 all-is : (p : ℕ → Bool) (n : ℕ) → every p (upTo n (λ i. i)) ≡ all p n
 unfolding all
@@ -84,40 +84,55 @@ module _ (b : List ℕ) (bytes : Bytes b) where
         length-rows lineBytes 19 m (λ j. readLine b (19 * j)) (λ i l. length-line (readLine b (19 * i))) ∙ sym (length-part 0 (19 * m) b (omega arith)) in
         rw (cut, ll, same-append (flat lineBytes (linesTo b m)) (flat (λ (i : ℕ). unusedLine) (upTo (16 - m) (λ i. i))) (part 0 (19 * m) b) (part (19 * m) (19 * (16 - m)) b) len, lines-are) (unused-are m le)
 
--- the whole table
-module _ (b : List ℕ) (bytes : Bytes b) (n : ℕ) (size : length b ≡ sizeOf n) where
+-- the whole table, by the layout of its length
+module _ (b : List ℕ) (bytes : Bytes b) (n : ℕ) (size : length b ≡ sizeOf (layoutOf (length b)) n) where
+  abbrev l : Layout
+  l = layoutOf (length b)
+
   abbrev lines : List ℕ
-  lines = drop (lineAt 0) b
+  lines = drop (linesAt l) b
 
   abbrev slots : List ℕ
-  slots = drop base b
+  slots = drop (base l) b
 
-  whole : b ≡ part 0 9 b ++ (part 0 304 lines ++ slots)
+  whole : b ≡ part 0 (linesAt l) b ++ (part 0 304 lines ++ slots)
   unfolding part
-  whole = sym (take-append-drop 9 b) ∙ ap (λ (x : List ℕ). take 9 b ++ x) (sym (take-append-drop 304 lines) ∙ ap (λ (x : List ℕ). take 304 lines ++ x) (drop-drop 304 9 b))
+  whole =
+      sym (take-append-drop (linesAt l) b)
+      ∙ ap (λ (x : List ℕ). take (linesAt l) b ++ x)
+      (sym (take-append-drop 304 lines) ∙ ap (λ (x : List ℕ). take 304 lines ++ x) (drop-drop 304 (linesAt l) b))
 
-  clock-is : same (clockBytes (readTable b .clock)) (part 0 9 b) ≡ eqb (getD b 0 0) 1
-  unfolding clockBytes readTable
+  clock-is : same (clockBytes l (readTable b .clock)) (part 0 (linesAt l) b) ≡ eqb (getD b 0 0) (clockKind l)
+  unfolding readTable
   clock-is =
-      let e : encode ((4, bigEndian b 1 4) ∷ (4, bigEndian b 5 4) ∷ []) ≡ part 1 8 b = read-all b bytes 0 1 (4 ∷ 4 ∷ []) (omega arith) in
-      rw (encode-first 1 ((4, bigEndian b 1 4) ∷ (4, bigEndian b 5 4) ∷ []) (lit< tt), e, part-head 0 8 b (omega arith), same-cons, same-refl (part 1 8 b)) (and-true (eqb 1 (getD b 0 0)) ∙ eqb-sym 1 (getD b 0 0))
+      let c = readTable b .clock in
+      let w = placeBytes l + 4 in
+      let fields : readAll b 0 1 (placeBytes l ∷ 4 ∷ []) ≡ clockFields l c = rw (zero-add (runningAt l)) in
+      let e : encode (clockFields l c) ≡ part 1 w b =
+      ap encode (sym fields) ∙ read-all b bytes 0 1 (placeBytes l ∷ 4 ∷ []) (omega arith) ∙ ap (λ (k : ℕ). part 1 k b) (omega arith) in
+      let f : linesAt l ≡ suc w = omega arith in
+      rw (clock-starts l c, e, f, part-head 0 w b (omega arith), same-cons, same-refl (part 1 w b))
+      (and-true (eqb (clockKind l) (getD b 0 0)) ∙ eqb-sym (clockKind l) (getD b 0 0))
 
-  pub layout-is : same (tableBytes (readTable b)) b ≡ tableShape b n
+  pub layout-is : same (tableBytes (readTable b)) b ≡ tableShape l b n
   unfolding tableBytes tableShape partsShape
   layout-is =
       let ls = linesTo lines (listedIn lines 16) in
-      let c0 : b ≡ part 0 9 b ++ (part 0 304 lines ++ slots) = whole in
-      let sl : length lines ≡ length b - lineAt 0 = length-drop (lineAt 0) b in
-      let ss : length slots ≡ length b - base = length-drop base b in
-      let lc : length (clockBytes (readTable b .clock)) ≡ length (part 0 9 b) = length-clock (readTable b .clock) ∙ sym (length-part 0 9 b (omega arith)) in
+      let c0 : b ≡ part 0 (linesAt l) b ++ (part 0 304 lines ++ slots) = whole in
+      let sl : length lines ≡ length b - linesAt l = length-drop (linesAt l) b in
+      let ss : length slots ≡ length b - base l = length-drop (base l) b in
+      let lc : length (clockBytes l (readTable b .clock)) ≡ length (part 0 (linesAt l) b) =
+      length-clock l (readTable b .clock) ∙ sym (length-part 0 (linesAt l) b (omega arith)) in
       let lr : length (rosterBytes ls) ≡ length (part 0 304 lines) = length-roster ls (rw (roster-read b) at (lines-read b)) ∙ sym (length-part 0 304 lines (omega arith)) in
-      ap (λ (x : List ℕ). same (clockBytes (readTable b .clock) ++ (rosterBytes (readTable b .roster) ++ flat slotBytes (readTable b .slots))) x) c0
-      ∙ same-append (clockBytes (readTable b .clock)) (rosterBytes (readTable b .roster) ++ flat slotBytes (readTable b .slots)) (part 0 9 b) (part 0 304 lines ++ slots) lc
+      rw (layout-read b)
+      (ap (λ (x : List ℕ). same (clockBytes l (readTable b .clock) ++ (rosterBytes (readTable b .roster) ++ flat slotBytes (readTable b .slots))) x) c0
+      ∙ same-append (clockBytes l (readTable b .clock)) (rosterBytes (readTable b .roster) ++ flat slotBytes (readTable b .slots)) (part 0 (linesAt l) b)
+      (part 0 304 lines ++ slots) lc
       ∙ (rw (
         clock-is,
         roster-read b,
         slots-read b n size,
         same-append (rosterBytes ls) (flat slotBytes (slotsTo slots n)) (part 0 304 lines) slots lr,
-        roster-is lines (bytes-drop (lineAt 0) b bytes) (omega arith),
-        slots-are slots (bytes-drop base b bytes) n (omega arith),
-      ))
+        roster-is lines (bytes-drop (linesAt l) b bytes) (omega arith),
+        slots-are slots (bytes-drop (base l) b bytes) n (omega arith),
+      )))

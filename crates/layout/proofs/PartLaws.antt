@@ -8,7 +8,7 @@ use lib.ListN.{length, getD, take, drop, length-drop}
 use lib.Seq.{getD-drop, drop-drop, take-add, take-length, drop-length}
 use Rattle.model.specs.Numbers.{bigEndian, part, splice}
 use Rattle.model.specs.Lists.{upTo, indexOf}
-use Rattle.model.specs.Table.{Slot, readTable, readSlot, readEntry, readLine, base, lineAt, listed, slotsIn, sizeOf}
+use Rattle.model.specs.Table.{Slot, readTable, readSlot, readEntry, readLine, Layout, runningAt, linesAt, base, lineAt, slotAt, listed, layoutOf, slotsIn, sizeOf}
 use Rattle.model.specs.Rules.{Holding, holdings}
 use Rattle.model.specs.Serve.{has, findEntry}
 use Rattle.model.proofs.NumberLaws.{big-ext}
@@ -71,43 +71,53 @@ pub tail-written : (b : List ℕ) (at w : ℕ) (vs : List ℕ) {a k : ℕ} {ws :
     → take a b ++ (ws ++ drop (length b - a) (drop a b)) ≡ splice (k + at) w vs b
 tail-written b at w vs {k = k} e f = tail-back b e (f ∙ ap (splice at w vs) (tail-is b e)) ∙ tail-splice b k at w vs
 
--- A TABLE'S PARTS
+-- A TABLE'S PARTS, by the layout of its length
 
 module _ (b : List ℕ) where
-  pub listed-in : (m : ℕ) → listedIn (drop (lineAt 0) b) m ≡ listed b m
+  abbrev l : Layout
+  l = layoutOf (length b)
+
+  listed-in : (m : ℕ) → listedIn (drop (linesAt l) b) m ≡ listed l b m
   unfolding listedIn listed
   listed-in zero = refl
-  listed-in (suc m) = rw (listed-in m, getD-drop (lineAt 0) b (19 * m) 0)
+  listed-in (suc m) = rw (listed-in m, getD-drop (linesAt l) b (19 * m) 0)
 
-  pub roster-read : readTable b .roster ≡ linesTo (drop (lineAt 0) b) (listedIn (drop (lineAt 0) b) 16)
+  pub listed-is : listed l b 16 ≡ listedIn (drop (linesAt l) b) 16
+  listed-is = sym (listed-in 16)
+
+  pub roster-read : readTable b .roster ≡ linesTo (drop (linesAt l) b) (listedIn (drop (linesAt l) b) 16)
   unfolding readTable
-  roster-read = rw (listed-in 16) (upTo-ext (listed b 16) (λ j. readLine b (lineAt j)) (λ j. readLine (drop (lineAt 0) b) (19 * j)) (λ j l. sym (line-drop (lineAt 0) b (19 * j))))
+  roster-read =
+      rw (listed-in 16)
+      (upTo-ext (listed l b 16) (λ j. readLine b (lineAt l j)) (λ j. readLine (drop (linesAt l) b) (19 * j)) (λ j h. sym (line-drop (linesAt l) b (19 * j))))
 
-  running-is : readTable b .clock .running ≡ bigEndian b 5 4
+  running-is : readTable b .clock .running ≡ bigEndian b (runningAt l) 4
   unfolding readTable
   running-is = refl
 
-  slots-at : (n : ℕ) → upTo n (λ j. readSlot b (base + 320 * j)) ≡ slotsTo (drop base b) n
-  slots-at n = upTo-ext n (λ j. readSlot b (base + 320 * j)) (λ j. readSlot (drop base b) (320 * j)) (λ j l. sym (slot-drop base b (320 * j)))
+  slots-at : (n : ℕ) → upTo n (λ j. readSlot b (slotAt l j)) ≡ slotsTo (drop (base l) b) n
+  slots-at n = upTo-ext n (λ j. readSlot b (slotAt l j)) (λ j. readSlot (drop (base l) b) (320 * j)) (λ j h. sym (slot-drop (base l) b (320 * j)))
 
-  pub parts-read : readTable b .slots ≡ slotsTo (drop base b) (slotsIn (length b))
+  pub parts-read : readTable b .slots ≡ slotsTo (drop (base l) b) (slotsIn (length b))
   unfolding readTable
   parts-read = slots-at (slotsIn (length b))
 
-  pub holdings-parts : holdings (readTable b) ≡ heldTo (bigEndian b 5 4) (drop base b) (slotsIn (length b))
+  pub holdings-parts : holdings (readTable b) ≡ heldTo (bigEndian b (runningAt l) 4) (drop (base l) b) (slotsIn (length b))
   unfolding readTable heldTo
   holdings-parts = rw (slots-at (slotsIn (length b)))
 
-  module _ (n : ℕ) (size : length b ≡ sizeOf n) where
+  module _ (n : ℕ) (size : length b ≡ sizeOf l n) where
     size-is : slotsIn (length b) ≡ n
     size-is = omega arith
 
-    pub slots-read : readTable b .slots ≡ slotsTo (drop base b) n
-    slots-read = parts-read ∙ ap (λ (k : ℕ). slotsTo (drop base b) k) size-is
+    pub slots-read : readTable b .slots ≡ slotsTo (drop (base l) b) n
+    slots-read = parts-read ∙ ap (λ (k : ℕ). slotsTo (drop (base l) b) k) size-is
 
-    pub find-read : (p : Holding → Bool) → findEntry p (readTable b) ≡ indexOf (has (bigEndian b 5 4) p) (slotsTo (drop base b) n)
+    pub find-read : (p : Holding → Bool) → findEntry p (readTable b) ≡ indexOf (has (bigEndian b (runningAt l) 4) p) (slotsTo (drop (base l) b) n)
     unfolding findEntry
-    find-read p = ap (λ (s : List Slot). indexOf (has (readTable b .clock .running) p) s) slots-read ∙ ap (λ (r : ℕ). indexOf (has r p) (slotsTo (drop base b) n)) running-is
+    find-read p =
+        ap (λ (s : List Slot). indexOf (has (readTable b .clock .running) p) s) slots-read
+        ∙ ap (λ (r : ℕ). indexOf (has r p) (slotsTo (drop (base l) b) n)) running-is
 
-    pub holdings-read : holdings (readTable b) ≡ heldTo (bigEndian b 5 4) (drop base b) n
-    holdings-read = holdings-parts ∙ ap (λ (k : ℕ). heldTo (bigEndian b 5 4) (drop base b) k) size-is
+    pub holdings-read : holdings (readTable b) ≡ heldTo (bigEndian b (runningAt l) 4) (drop (base l) b) n
+    holdings-read = holdings-parts ∙ ap (λ (k : ℕ). heldTo (bigEndian b (runningAt l) 4) (drop (base l) b) k) size-is

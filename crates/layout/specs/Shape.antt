@@ -1,13 +1,13 @@
 -- The kinds and zeros of the layout as tests at a place in the bytes: what code looks at. Lines and slots are looked at in the part of a table
 -- that starts with them, so that nothing said of them knows where that is. Assumes nothing.
 use Prim.Native.Nat.{ℕ, zero, suc, _+_, _-_, _*_}
-use mathlib.Core.Bool.{Bool, cond, _&&_, _||_}
+use mathlib.Core.Bool.{Bool, true, false, cond, _&&_, _||_}
 use mathlib.Core.List.{List}
 use lib.ListN.{getD, drop, replicate}
 use lib.Dec.{eqb}
 use Rattle.model.specs.Lists.{every, upTo, same}
 use Rattle.model.specs.Numbers.{part}
-use Rattle.model.specs.Table.{Slot, Line, base, lineAt, readSlot, readLine}
+use Rattle.model.specs.Table.{Slot, Line, Layout, clockKind, linesAt, base, readSlot, readLine}
 
 -- each number below n passes
 unfoldable pub all : (ℕ → Bool) → ℕ → Bool
@@ -50,6 +50,6 @@ unusedFrom b m = all (λ i. unusedShape b (19 * m + 19 * i)) (16 - m)
 unfoldable pub partsShape : List ℕ → List ℕ → ℕ → Bool
 partsShape lines slots n = unusedFrom lines (listedIn lines 16) && all (λ i. slotShape slots (320 * i)) n
 
--- kinds, order, lengths and zeros of a table with n slots
-unfoldable pub tableShape : List ℕ → ℕ → Bool
-tableShape b n = eqb (getD b 0 0) 1 && partsShape (drop (lineAt 0) b) (drop base b) n
+-- kinds, order, lengths and zeros of a table of layout l with n slots
+unfoldable pub tableShape : Layout → List ℕ → ℕ → Bool
+tableShape l b n = eqb (getD b 0 0) (clockKind l) && partsShape (drop (linesAt l) b) (drop (base l) b) n

@@ -1,11 +1,14 @@
 // Where a table's records lie in its bytes: document 01, "The table". Each of these numbers stands here alone.
 ghost use mathlib.Core.Path.{_≡_};
-ghost use Rattle.model.specs.Table.{slotsIn};
+ghost use Rattle.model.specs.Table.{kindWith, linesAt, layoutOf};
 ghost use Rattle.model.specs.Calls.{tableLength};
+ghost use Rattle.layout.specs.Weeks.{weeksOf};
 ghost use Rattle.layout.specs.Places.{LayoutFor};
 
-// Kinds of record.
-pub const CLOCK_KIND: u8 = 1;
+// Kinds of record: of the clock, with weeks of ten bits and of thirteen, of lines and of slots.
+const TEN_CLOCK_KIND: u8 = 1;
+
+const THIRTEEN_CLOCK_KIND: u8 = 9;
 
 pub const UNUSED_KIND: u8 = 2;
 
@@ -17,13 +20,15 @@ pub const PENDING_KIND: u8 = 5;
 
 pub const ESTABLISHED_KIND: u8 = 6;
 
-// The clock's place and running count.
+// The clock's place, behind its kind, and the bytes of the running count, behind the place and before the lines.
 pub const PLACE_AT: usize = 1;
 
-pub const RUNNING_AT: usize = 5;
+pub const RUNNING: usize = 4;
 
-// The roster's lines: how many there are, the bytes of one and of all.
-pub const LINES_AT: usize = 9;
+// The roster's lines: where they start, how many there are, the bytes of one and of all.
+const TEN_LINES_AT: usize = PLACE_AT + 4 + RUNNING;
+
+const THIRTEEN_LINES_AT: usize = PLACE_AT + 8 + RUNNING;
 
 pub const LINES: usize = 16;
 
@@ -31,9 +36,7 @@ pub const LINE: usize = 19;
 
 pub const ROSTER: usize = LINE * LINES;
 
-// The slots, the bytes of one, and how many there are at most.
-pub const SLOTS_AT: usize = LINES_AT + ROSTER;
-
+// The slots, behind the lines: the bytes of one, and how many there are at most.
 pub const SLOT: usize = 320;
 
 pub const SLOTS_MOST: usize = 64;
@@ -78,47 +81,86 @@ pub const LINE_BODY: usize = LINE - 1;
 pub const SLOT_BODY: usize = SLOT - 1;
 
 // The length of the largest table.
-pub const TABLE_MOST: usize = SLOTS_AT + SLOT * SLOTS_MOST;
+pub const TABLE_MOST: usize = THIRTEEN_LINES_AT + ROSTER + SLOT * SLOTS_MOST;
 
-// Where a table's lines and slots start, and how many slots there are; worked out once a call from the table's length.
+// The weeks that a table's clock counts: of ten bits, or of thirteen.
+pub enum Weeks {
+    Ten,
+    Thirteen,
+}
+
+// The kind of a clock record.
+pub fn clock_kind(weeks: Weeks) -> u8
+    ensures { λ r. ⌜ r ≡ kindWith (weeksOf weeks) ⌝ }
+{
+    match weeks {
+        Weeks::Ten => TEN_CLOCK_KIND,
+        Weeks::Thirteen => THIRTEEN_CLOCK_KIND,
+    }
+}
+
+// How a table is laid out: the weeks that its clock counts, where its lines and slots start, and how many slots there are. It is worked out once a
+// call from the table's length.
 pub struct Layout {
+    pub weeks: Weeks,
     pub lines_at: usize,
     pub slots_at: usize,
     pub n: usize,
 }
 
-// The slots of a table of this length.
-fn slots(size: usize) -> usize
-    ensures { λ r. ⌜ r ≡ slotsIn size ⌝ }
+// The two lengths differ in their rest: 313 and 317 modulo 320.
+fn weeks_of(size: usize) -> Weeks
+    ensures { λ r. ⌜ weeksOf r ≡ layoutOf size .weeks ⌝ }
 {
-    if size < SLOTS_AT {
-        return 0;
+    if size % SLOT == THIRTEEN_LINES_AT + ROSTER {
+        return Weeks::Thirteen;
     }
-    (size - SLOTS_AT) / SLOT
+    Weeks::Ten
+}
+
+fn lines_at(weeks: Weeks) -> usize
+    ensures { λ r. ⌜ r ≡ linesAt (record { weeks = weeksOf weeks }) ⌝ }
+{
+    match weeks {
+        Weeks::Ten => TEN_LINES_AT,
+        Weeks::Thirteen => THIRTEEN_LINES_AT,
+    }
 }
 
 // The layout of a table of this length.
 pub fn of(size: usize) -> Layout
     ensures { λ r. ⌜ LayoutFor r size ⌝ }
 {
-    let n = slots(size);
+    let weeks = weeks_of(size);
+    let lines_at = lines_at(weeks);
+    let slots_at = lines_at + ROSTER;
+    if size < slots_at {
+        return Layout {
+            weeks,
+            lines_at,
+            slots_at,
+            n: 0,
+        };
+    }
+    let n = (size - slots_at) / SLOT;
     Layout {
-        lines_at: LINES_AT,
-        slots_at: SLOTS_AT,
+        weeks,
+        lines_at,
+        slots_at,
         n,
     }
 }
 
 // The length is that of a table of 1 to 64 slots.
-pub fn table_length(size: usize, n: usize) -> bool
-    requires { ⌜ n ≡ slotsIn size ⌝ }
+pub fn table_length(size: usize, l: Layout) -> bool
+    requires { ⌜ LayoutFor l size ⌝ }
     ensures { λ r. ⌜ r ≡ tableLength size ⌝ }
 {
-    if n < 1 {
+    if l.n < 1 {
         return false;
     }
-    if n > SLOTS_MOST {
+    if l.n > SLOTS_MOST {
         return false;
     }
-    size == SLOTS_AT + SLOT * n
+    size == l.slots_at + SLOT * l.n
 }

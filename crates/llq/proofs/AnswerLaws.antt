@@ -7,10 +7,10 @@ use mathlib.Core.List.{List, [], _∷_, _++_, append-nil}
 use lib.ListN.{length, drop}
 use borrow.Author.Tests.{le-ltb, leb-true}
 use Rattle.model.specs.Lists.{count, flat, upTo}
-use Rattle.model.specs.Numbers.{splice, bigEndian}
-use Rattle.model.specs.Clock.{cycle, validReading, placeOf, advance, ageAt}
+use Rattle.model.specs.Numbers.{splice}
+use Rattle.model.specs.Clock.{cycleOf, validReading, placeOf, advance, ageAt}
 use Rattle.model.specs.Query.{Question, LlqOption, qdcount, questionsEnd, matched, question, llqOption}
-use Rattle.model.specs.Table.{Slot, free, held, Table, tableBytes, readTable}
+use Rattle.model.specs.Table.{Slot, free, held, Layout, Table, tableBytes, readTable, layoutOf, slotsIn, cycleIn}
 use Rattle.model.specs.Rules.{Holding}
 use Rattle.model.specs.Sound.{live, soundBytes}
 use Rattle.model.specs.Serve.{Sender, Outcome, has, serveOption, movedOn, slotRunOut}
@@ -19,8 +19,8 @@ use Rattle.model.specs.Calls.{MakeCall, ServeCall, freedBy, freshTable}
 use Rattle.model.specs.Meets.{ServeMeets}
 use Rattle.model.proofs.ListLaws.{count-le, count-mono, length-upTo}
 use Rattle.model.proofs.HoldingLaws.{count-entries}
-use Rattle.model.proofs.Meaning.{table-sound}
-use Rattle.layout.proofs.ReadLaws.{running-read}
+use Rattle.model.proofs.Meaning.{table-sound, layout-read}
+use Rattle.model.proofs.ClockLaws.{placed}
 use Rattle.query.specs.Whole.{queryRefusal}
 use Rattle.table.specs.Written.{WellFormed, Written}
 use Rattle.table.specs.Fresh.{fresh}
@@ -31,9 +31,19 @@ use Rattle.llq.proofs.LadderLaws.{noRoom, serve-done}
 
 -- WHAT A SOUND TABLE GIVES
 
-pub sound-place : (b : List ℕ) → soundBytes b ≡ true → bigEndian b 1 4 < cycle
-unfolding readTable
-sound-place b h = table-sound b h .place
+pub sound-place : (b : List ℕ) {l : Layout} → l ≡ layoutOf (length b) → soundBytes b ≡ true → readTable b .clock .place < cycleOf (l .weeks)
+sound-place b {l} e h =
+    let c : cycleIn (readTable b) ≡ cycleOf (l .weeks) = ap (λ (k : Layout). cycleOf (k .weeks)) (layout-read b ∙ sym e) in
+    rw c at (table-sound b h .place)
+
+-- the reading's test by the layout that was worked out is that by the length
+pub reading-tested : (size : ℕ) {l : Layout} (week second : ℕ) {r v : Bool} → l ≡ layoutOf size → r ≡ validReading (l .weeks) week second → r ≡ v
+    → validReading (layoutOf size .weeks) week second ≡ v
+reading-tested size week second e f g = ap (λ (k : Layout). validReading (k .weeks) week second) (sym e) ∙ sym f ∙ g
+
+-- a reading that is taken lies on the table's cycle
+pub reading-place : {r : Bool} (l : Layout) (week second : ℕ) {p : ℕ} → r ≡ validReading (l .weeks) week second → r ≡ true → p ≡ placeOf week second → p < cycleOf (l .weeks)
+reading-place l week second f g e = rw e (placed (l .weeks) week second (sym f ∙ g))
 
 out-dead : (r : ℕ) (x : Slot) → slotRunOut r x ≡ true → has r (λ k. not (live k)) x ≡ true
 unfolding slotRunOut has
@@ -41,26 +51,27 @@ out-dead r free e = e
 out-dead r (held e) z = rw (le-ltb (ageAt r (e .stamp)) (e .lease) (leb-true (e .lease) (ageAt r (e .stamp)) z))
 
 -- no entry of a sound table has run out
-pub sound-live : (b : List ℕ) → soundBytes b ≡ true → count (readTable b .slots) (slotRunOut (bigEndian b 5 4)) ≡ 0
+pub sound-live : (b : List ℕ) → soundBytes b ≡ true → count (readTable b .slots) (slotRunOut (readTable b .clock .running)) ≡ 0
 sound-live b h =
     let t = readTable b in
     let dead : Holding → Bool = λ k. not (live k) in
     let some = count-mono (t .slots) (slotRunOut (t .clock .running)) (has (t .clock .running) dead) (out-dead (t .clock .running)) in
     let all = count-entries (t .clock .running) (t .slots) dead in
-    rw (running-read b) at (let z : count (t .slots) (slotRunOut (t .clock .running)) ≡ 0 = omega (arith, some, all, table-sound b h .ages) in z)
+    omega (arith, some, all, table-sound b h .ages)
 
 -- a tick's count fits its field
 pub freed-few : (b : List ℕ) (p : ℕ) → soundBytes b ≡ true → freedBy (readTable b) p ≤ 64
 unfolding freedBy
 freed-few b p h =
     let t = readTable b in
-    let few = count-le (t .slots) (slotRunOut (advance (t .clock) p .running)) in
+    let few = count-le (t .slots) (slotRunOut (advance (cycleIn t) (t .clock) p .running)) in
     omega (arith, few, table-sound b h .slotsMax)
 
 -- what making writes is the model's fresh table
-pub fresh-is : (c : MakeCall) (p n m : ℕ) → p ≡ placeOf (c .week) (c .second) → n ≡ m → tableBytes (fresh p (c .roster) n) ≡ tableBytes (freshTable c m)
+pub fresh-is : (c : MakeCall) (l : Layout) (p n size : ℕ) → l ≡ layoutOf size → p ≡ placeOf (c .week) (c .second) → n ≡ slotsIn size
+    → tableBytes (fresh l p (c .roster) n) ≡ tableBytes (freshTable c size)
 unfolding freshTable
-fresh-is c p n m e f = rw (e, f)
+fresh-is c l p n size g e f = rw (g, e, f)
 
 -- ONE OPTION MORE
 
@@ -133,7 +144,7 @@ module _ (s : Sender) (r : ℕ) (d b lent : List ℕ) (n end : ℕ) (v : Bool) (
 -- THE ANSWERED CALL
 
 -- the clock moved and run-out entries freed, then the answer written
-pub serve-answered : (c : ServeCall) (b mid after reply left : List ℕ) (p k : ℕ) → soundBytes b ≡ true → validReading (c .week) (c .second) ≡ true
+pub serve-answered : (c : ServeCall) (b mid after reply left : List ℕ) (p k : ℕ) → soundBytes b ≡ true → validReading (layoutOf (length b) .weeks) (c .week) (c .second) ≡ true
     → queryRefusal (c .datagram) ≡ 0 → noRoom c b reply ≡ false → k ≡ replyLength (c .datagram) → p ≡ placeOf (c .week) (c .second)
     → Written mid (movedOn (readTable b) p) → Answers (c .sender) (c .random) (c .datagram) mid after reply left → ServeMeets c b after reply left 0 k
 serve-answered c b mid after reply left p k e f g h l z w a =

@@ -9,7 +9,7 @@ use lib.Dec.{eqb, ltb}
 use borrow.Author.Tests.{lt-ltb, le-ltb}
 use Rattle.model.specs.Clock.{validReading, placeOf}
 use Rattle.model.specs.Query.{wrongSize, goodHeader, goodQuestions, qdcount, goodOpt, questionsEnd, llqOptions}
-use Rattle.model.specs.Table.{tableBytes, readTable, slotsIn}
+use Rattle.model.specs.Table.{tableBytes, readTable, layoutOf, slotsIn}
 use Rattle.model.specs.Sound.{soundBytes}
 use Rattle.model.specs.Serve.{movedOn}
 use Rattle.model.specs.Reply.{replyBytes, replyLength}
@@ -61,7 +61,7 @@ module _ (c : MakeCall) (b : List ℕ) where
   unfolding make
   make-refused k e = record { number = sym (ap (λ (n : ℕ). madeBy n c b .number) e); table = sym (ap (λ (n : ℕ). madeBy n c b .table) e) }
 
-  make-ladder : (e f g : Bool) → tableLength (length b) ≡ e → validReading (c .week) (c .second) ≡ f → goodRoster (slotsIn (length b)) (c .roster) ≡ g
+  make-ladder : (e f g : Bool) → tableLength (length b) ≡ e → validReading (layoutOf (length b) .weeks) (c .week) (c .second) ≡ f → goodRoster (slotsIn (length b)) (c .roster) ≡ g
       → makeRefusal c (length b) ≡ refusal ((1, not e) ∷ (2, not f) ∷ (9, not g) ∷ [])
   unfolding makeRefusal
   make-ladder e f g h k l = rw (h, k, l)
@@ -70,17 +70,17 @@ module _ (c : MakeCall) (b : List ℕ) where
   unfolding refusal
   make-length e = make-refused 0 (make-ladder _ _ _ e refl refl)
 
-  pub make-reading : tableLength (length b) ≡ true → validReading (c .week) (c .second) ≡ false → MakeMeets c b b 2
+  pub make-reading : tableLength (length b) ≡ true → validReading (layoutOf (length b) .weeks) (c .week) (c .second) ≡ false → MakeMeets c b b 2
   unfolding refusal
   make-reading e f = make-refused 1 (make-ladder _ _ _ e f refl)
 
-  pub make-roster : tableLength (length b) ≡ true → validReading (c .week) (c .second) ≡ true → goodRoster (slotsIn (length b)) (c .roster) ≡ false
+  pub make-roster : tableLength (length b) ≡ true → validReading (layoutOf (length b) .weeks) (c .week) (c .second) ≡ true → goodRoster (slotsIn (length b)) (c .roster) ≡ false
       → MakeMeets c b b 9
   unfolding refusal
   make-roster e f g = make-refused 8 (make-ladder _ _ _ e f g)
 
-  pub make-done : (after : List ℕ) → tableLength (length b) ≡ true → validReading (c .week) (c .second) ≡ true
-      → goodRoster (slotsIn (length b)) (c .roster) ≡ true → after ≡ tableBytes (freshTable c (slotsIn (length b))) → MakeMeets c b after 0
+  pub make-done : (after : List ℕ) → tableLength (length b) ≡ true → validReading (layoutOf (length b) .weeks) (c .week) (c .second) ≡ true
+      → goodRoster (slotsIn (length b)) (c .roster) ≡ true → after ≡ tableBytes (freshTable c (length b)) → MakeMeets c b after 0
   unfolding refusal
   make-done after e f g h =
       let whole : make c b ≡ madeBy 0 c b = make-answered c b (make-ladder _ _ _ e f g) in
@@ -98,7 +98,7 @@ module _ (c : TickCall) (b : List ℕ) where
         table = sym (ap (λ (n : ℕ). tickedBy n c b .table) e);
       }
 
-  tick-ladder : (e f : Bool) → soundBytes b ≡ e → validReading (c .week) (c .second) ≡ f → tickRefusal c b ≡ refusal ((1, not e) ∷ (2, not f) ∷ [])
+  tick-ladder : (e f : Bool) → soundBytes b ≡ e → validReading (layoutOf (length b) .weeks) (c .week) (c .second) ≡ f → tickRefusal c b ≡ refusal ((1, not e) ∷ (2, not f) ∷ [])
   unfolding tickRefusal
   tick-ladder e f h k = rw (h, k)
 
@@ -106,11 +106,11 @@ module _ (c : TickCall) (b : List ℕ) where
   unfolding refusal
   tick-unsound e = tick-refused 0 (tick-ladder _ _ e refl)
 
-  pub tick-reading : soundBytes b ≡ true → validReading (c .week) (c .second) ≡ false → TickMeets c b b 2 0
+  pub tick-reading : soundBytes b ≡ true → validReading (layoutOf (length b) .weeks) (c .week) (c .second) ≡ false → TickMeets c b b 2 0
   unfolding refusal
   tick-reading e f = tick-refused 1 (tick-ladder _ _ e f)
 
-  pub tick-done : (after : List ℕ) (k : ℕ) → soundBytes b ≡ true → validReading (c .week) (c .second) ≡ true
+  pub tick-done : (after : List ℕ) (k : ℕ) → soundBytes b ≡ true → validReading (layoutOf (length b) .weeks) (c .week) (c .second) ≡ true
       → after ≡ tableBytes (movedOn (readTable b) (placeOf (c .week) (c .second))) → k ≡ freedBy (readTable b) (placeOf (c .week) (c .second))
       → TickMeets c b after 0 k
   unfolding refusal
@@ -152,18 +152,18 @@ module _ (c : ServeCall) (b reply : List ℕ) where
       ∷ (8, noRoom)
       ∷ [])
 
-  serve-ladder : (e f : Bool) → soundBytes b ≡ e → validReading (c .week) (c .second) ≡ f → serveRefusal c b ≡ cond (not e) 1 (cond (not f) 2 rest)
+  serve-ladder : (e f : Bool) → soundBytes b ≡ e → validReading (layoutOf (length b) .weeks) (c .week) (c .second) ≡ f → serveRefusal c b ≡ cond (not e) 1 (cond (not f) 2 rest)
   unfolding serveRefusal refusal
   serve-ladder e f h k = rw (h, k)
 
   pub serve-unsound : soundBytes b ≡ false → ServeMeets c b b reply reply 1 0
   serve-unsound e = serve-refused 0 (serve-ladder _ _ e refl)
 
-  pub serve-reading : soundBytes b ≡ true → validReading (c .week) (c .second) ≡ false → ServeMeets c b b reply reply 2 0
+  pub serve-reading : soundBytes b ≡ true → validReading (layoutOf (length b) .weeks) (c .week) (c .second) ≡ false → ServeMeets c b b reply reply 2 0
   serve-reading e f = serve-refused 1 (serve-ladder _ _ e f)
 
   -- refusals 3 to 7
-  pub serve-query : (k : ℕ) → soundBytes b ≡ true → validReading (c .week) (c .second) ≡ true → k ≡ queryRefusal (c .datagram) → 0 < k
+  pub serve-query : (k : ℕ) → soundBytes b ≡ true → validReading (layoutOf (length b) .weeks) (c .week) (c .second) ≡ true → k ≡ queryRefusal (c .datagram) → 0 < k
       → ServeMeets c b b reply reply k 0
   unfolding queryRefusal
   serve-query zero e f g h = absurd (omega arith)
@@ -173,11 +173,11 @@ module _ (c : ServeCall) (b reply : List ℕ) where
   unfolding queryRefusal
   rest-is g = sixth _ _ _ _ _ noRoom g
 
-  pub serve-room : soundBytes b ≡ true → validReading (c .week) (c .second) ≡ true → queryRefusal (c .datagram) ≡ 0 → noRoom ≡ true
+  pub serve-room : soundBytes b ≡ true → validReading (layoutOf (length b) .weeks) (c .week) (c .second) ≡ true → queryRefusal (c .datagram) ≡ 0 → noRoom ≡ true
       → ServeMeets c b b reply reply 8 0
   serve-room e f g h = serve-refused 7 (serve-ladder _ _ e f ∙ (rest-is g ∙ ap (λ (v : Bool). cond v 8 0) h))
 
-  pub serve-done : (after left : List ℕ) (k : ℕ) → soundBytes b ≡ true → validReading (c .week) (c .second) ≡ true → queryRefusal (c .datagram) ≡ 0
+  pub serve-done : (after left : List ℕ) (k : ℕ) → soundBytes b ≡ true → validReading (layoutOf (length b) .weeks) (c .week) (c .second) ≡ true → queryRefusal (c .datagram) ≡ 0
       → noRoom ≡ false → k ≡ replyLength (c .datagram) → after ≡ tableBytes (tableAfter c (readTable b))
       → left ≡ replyBytes (c .datagram) (outcomes c (readTable b)) ++ drop (replyLength (c .datagram)) reply → ServeMeets c b after reply left 0 k
   serve-done after left k e f g h l m n =

@@ -48,10 +48,11 @@ pub extern "C" fn llq_make(week: u32, second: u32, t: &mut [u8], roster: &[u8]) 
     ensures { λ r. ⌜ MakeMeets (record { week = week; second = second; roster = now (roster .entry) }) (now (t .entry)) (now (t .exit)) r ⌝ }
 {
     let l = layout::of(t.len());
-    if !layout::table_length(t.len(), l.n) {
+    if !layout::table_length(t.len(), l) {
         return 1;
     }
-    if !clock::valid(week, second) {
+    let weeks = l.weeks;
+    if !clock::valid(weeks, week, second) {
         return 2;
     }
     if !sound::roster_sound(roster, l.n) {
@@ -74,7 +75,8 @@ pub extern "C" fn llq_tick(week: u32, second: u32, t: &mut [u8]) -> Ticked
             freed: 0,
         };
     }
-    if !clock::valid(week, second) {
+    let weeks = l.weeks;
+    if !clock::valid(weeks, week, second) {
         return Ticked {
             number: 2,
             freed: 0,
@@ -239,7 +241,8 @@ pub extern "C" fn llq_serve(
     if !sound::sound(t, l) {
         return refuse(1);
     }
-    if !clock::valid(week, second) {
+    let weeks = l.weeks;
+    if !clock::valid(weeks, week, second) {
         return refuse(2);
     }
     let p = query::parse(datagram);

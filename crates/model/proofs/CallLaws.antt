@@ -9,7 +9,7 @@ use lib.ListN.{length, getD}
 use lib.Dec.{eqb, leb}
 use borrow.Author.Tests.{eqb-true, eqb-false, leb-true, not-true}
 use Rattle.model.specs.Lists.{every, upTo}
-use Rattle.model.specs.Table.{sizeOf, slotsIn}
+use Rattle.model.specs.Table.{sizeOf, layoutOf, slotsIn}
 use Rattle.model.specs.Sound.{soundRoster}
 use Rattle.model.specs.Calls.{MakeCall, TickCall, ServeCall, refusal, tableLength, rosterCount, rosterLines, goodRoster, makeRefusal, madeBy, make, tickRefusal, tickedBy, tick, serveRefusal, servedBy, serve}
 use Rattle.model.proofs.ListLaws.{and-left, and-right, either, every-index}
@@ -18,19 +18,19 @@ use Rattle.model.proofs.ListLaws.{and-left, and-right, either, every-in
 pub record LengthFacts (size : ℕ) : Type 0 where
   pub slotsMin : 1 ≤ slotsIn size
   pub slotsMax : slotsIn size ≤ 64
-  pub whole : size ≡ sizeOf (slotsIn size)
+  pub whole : size ≡ sizeOf (layoutOf size) (slotsIn size)
 
 pub length-facts : (size : ℕ) → tableLength size ≡ true → LengthFacts size
 unfolding tableLength
 length-facts size h =
     let a = leb 1 (slotsIn size) in
     let b = leb (slotsIn size) 64 in
-    let c = eqb size (sizeOf (slotsIn size)) in
+    let c = eqb size (sizeOf (layoutOf size) (slotsIn size)) in
     let ab : a && b ≡ true = and-left (a && b) c h in
     record {
       slotsMin = leb-true 1 (slotsIn size) (and-left a b ab);
       slotsMax = leb-true (slotsIn size) 64 (and-right a b ab);
-      whole = eqb-true size (sizeOf (slotsIn size)) (and-right (a && b) c h);
+      whole = eqb-true size (sizeOf (layoutOf size) (slotsIn size)) (and-right (a && b) c h);
     }
 
 -- THE ROSTER GIVEN, of n slots

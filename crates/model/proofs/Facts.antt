@@ -9,9 +9,8 @@ use lib.ListN.{length}
 use lib.Dec.{eqb, leb, ltb}
 use borrow.Author.Tests.{eqb-true, eq-eqb, leb-true, le-leb, ltb-true, lt-ltb}
 use Rattle.model.specs.Lists.{bit, count, any, every, noTwo, same}
-use Rattle.model.specs.Clock.{cycle}
 use Rattle.model.specs.Query.{Question}
-use Rattle.model.specs.Table.{Line, Table}
+use Rattle.model.specs.Table.{Line, Table, cycleIn}
 use Rattle.model.specs.Rules.{Holding, holdings, heldBy, numbered, asks, limitOf, reserve, shares}
 use Rattle.model.specs.Sound.{validLine, sameAddress, nonZeroNumber, validLease, live, validName, validEntry, sameNumber, sameQuestion, Sound, soundRoster, soundHoldings, soundTable}
 use Rattle.model.proofs.ListLaws.{and-left, and-right, eqb-sym, same-sym, count-mono, count-flip, every-none, none-every, every-all, every-both, one-at-most, at-most-one, same-true, same-refl}
@@ -174,7 +173,7 @@ module _ (t : Table) where
       let hs = holdings t in
       let n = length (t .slots) in
       let ls = t .roster in
-      let pl = ltb (t .clock .place) cycle in
+      let pl = ltb (t .clock .place) (cycleIn t) in
       let n1 = leb 1 n in
       let n64 = leb n 64 in
       let m16 = leb (length ls) 16 in
@@ -202,7 +201,7 @@ module _ (t : Table) where
       let v3 : e1 && e2 && e3 ≡ true = and-left (e1 && e2 && e3) e4 v4 in
       let v2 : e1 && e2 ≡ true = and-left (e1 && e2) e3 v3 in
       record {
-        place = ltb-true (t .clock .place) cycle (and-left pl (n1 && n64) s2);
+        place = ltb-true (t .clock .place) (cycleIn t) (and-left pl (n1 && n64) s2);
         slotsMin = leb-true 1 n (and-left n1 n64 sz);
         slotsMax = leb-true n 64 (and-right n1 n64 sz);
         lines = leb-true (length ls) 16 (and-right (pl && (n1 && n64)) m16 s3);

@@ -8,11 +8,11 @@ use lib.ListN.{length, getD, length-take}
 use lib.Dec.{eqb}
 use Rattle.model.specs.Lists.{same}
 use Rattle.model.specs.Numbers.{Bytes, part}
-use Rattle.model.specs.Table.{free, held, Table, tableBytes, readTable, readSlot, readLine, readEntry, slotAt, lineAt, listed, slotsIn, sizeOf}
+use Rattle.model.specs.Table.{free, held, Layout, Table, placeBytes, tableBytes, readTable, readSlot, readLine, readEntry, runningAt, slotAt, lineAt, listed, layoutOf, slotsIn, sizeOf}
 use Rattle.model.specs.Sound.{FitsEntry, FitsSlot, FitsLine, Fits, Sound, SoundBytes, soundTable, soundBytes}
 use Rattle.model.proofs.NumberLaws.{big-lt, bytes-part}
 use Rattle.model.proofs.ListLaws.{and-left, and-right, same-true, same-refl, length-upTo, getD-upTo}
-use Rattle.model.proofs.RoundTrip.{noLine, table-back, listed-le}
+use Rattle.model.proofs.RoundTrip.{noLine, table-back, listed-le, slots-back}
 use Rattle.model.proofs.Facts.{sound-facts, facts-sound}
 
 -- bytes are read as values that fit
@@ -47,27 +47,34 @@ module _ (b : List ℕ) (bytes : Bytes b) where
   pub fits-read : Fits (readTable b)
   unfolding readTable
   fits-read =
+      let l = layoutOf (length b) in
       record {
-        place = big-lt b 1 4 bytes;
-        running = big-lt b 5 4 bytes;
-        lines = λ i l.
-            let m = (rw (length-upTo (listed b 16) (λ j. readLine b (lineAt j))) at l) in
-            rw (getD-upTo (listed b 16) (λ j. readLine b (lineAt j)) i noLine m) (fits-line (lineAt i));
-        slots = λ i l.
-            let m = (rw (length-upTo (slotsIn (length b)) (λ j. readSlot b (slotAt j))) at l) in
-            rw (getD-upTo (slotsIn (length b)) (λ j. readSlot b (slotAt j)) i free m) (fits-slot (slotAt i));
+        place = big-lt b 1 (placeBytes l) bytes;
+        running = big-lt b (runningAt l) 4 bytes;
+        lines = λ i h.
+            let m = (rw (length-upTo (listed l b 16) (λ j. readLine b (lineAt l j))) at h) in
+            rw (getD-upTo (listed l b 16) (λ j. readLine b (lineAt l j)) i noLine m) (fits-line (lineAt l i));
+        slots = λ i h.
+            let m = (rw (length-upTo (slotsIn (length b)) (λ j. readSlot b (slotAt l j))) at h) in
+            rw (getD-upTo (slotsIn (length b)) (λ j. readSlot b (slotAt l j)) i free m) (fits-slot (slotAt l i));
       }
 
 pub lines-read : (b : List ℕ) → length (readTable b .roster) ≤ 16
 unfolding readTable
-lines-read b = rw (length-upTo (listed b 16) (λ j. readLine b (lineAt j))) (listed-le b 16)
+lines-read b =
+    let l = layoutOf (length b) in
+    rw (length-upTo (listed l b 16) (λ j. readLine b (lineAt l j))) (listed-le l b 16)
 
 pub slots-read : (b : List ℕ) → length (readTable b .slots) ≡ slotsIn (length b)
 unfolding readTable
-slots-read b = length-upTo (slotsIn (length b)) (λ j. readSlot b (slotAt j))
+slots-read b = length-upTo (slotsIn (length b)) (λ j. readSlot b (slotAt (layoutOf (length b)) j))
 
-pub slots-count : (b : List ℕ) (n : ℕ) → length b ≡ sizeOf n → length (readTable b .slots) ≡ n
-slots-count b n size = slots-read b ∙ (omega arith)
+pub layout-read : (b : List ℕ) → readTable b .layout ≡ layoutOf (length b)
+unfolding readTable
+layout-read b = refl
+
+pub slots-count : (b : List ℕ) (l : Layout) (n : ℕ) → length b ≡ sizeOf l n → length (readTable b .slots) ≡ n
+slots-count b l n size = slots-read b ∙ ap slotsIn size ∙ slots-back l n
 
 -- SOUND BYTES are the bytes of a sound table
 

@@ -1,5 +1,5 @@
 -- What was written is read: the table comes back from its bytes. Assumes nothing.
-use Prim.Native.Nat.{ℕ, zero, suc, _+_, _-_, _≤_, _<_}
+use Prim.Native.Nat.{ℕ, zero, suc, _+_, _-_, _*_, _%_, _≤_, _<_}
 use native.Mathlib.Nat.{eq-or-lt-of-le}
 use native.Mathlib.Numerals.{add-one}
 use native.Mathlib.Omega.{arith}
@@ -13,74 +13,87 @@ use lib.Dec.{eqb, lit<}
 use borrow.Author.Tests.{eq-eqb, ne-eqb}
 use Rattle.model.specs.Lists.{upTo, flat}
 use Rattle.model.specs.Numbers.{bigEndian}
-use Rattle.model.specs.Table.{Line, free, Table, slotBytes, lineBytes, unusedLine, rosterBytes, clockBytes, tableBytes, readTable, readSlot, readLine, slotAt, lineAt, listed, slotsIn}
+use Rattle.model.specs.Clock.{Weeks, tenBit, thirteenBit}
+use Rattle.model.specs.Table.{Line, free, Layout, Table, slotBytes, lineBytes, unusedLine, rosterBytes, clockKind, placeBytes, clockBytes, tableBytes, readBy, readTable, readSlot, readLine, runningAt, slotAt, lineAt, sizeOf, weeksFor, layoutOf, listed, slotsIn}
 use Rattle.model.specs.Sound.{Fits}
 use Rattle.model.proofs.ListLaws.{length-upTo, upTo-ext, upTo-getD, length-flat}
 use Rattle.model.proofs.SlotLaws.{length-line, slot-back, field-behind, line-kind, line-back}
 use Rattle.model.proofs.TableLaws.{flat-cut, length-front, length-roster, length-clock, fits-rows, length-table, clockFields}
 
 -- HOW MANY LINES ARE LISTED
-module _ (b : List ℕ) where
-  pub listed-more : (i : ℕ) → listed b i ≡ i → getD b (lineAt i) 0 ≡ 3 → listed b (i + 1) ≡ i + 1
+module _ (l : Layout) (b : List ℕ) where
+  pub listed-more : (i : ℕ) → listed l b i ≡ i → getD b (lineAt l i) 0 ≡ 3 → listed l b (i + 1) ≡ i + 1
   unfolding listed
-  listed-more i e k = rw (add-one, e, eq-eqb i i refl, eq-eqb (getD b (lineAt i) 0) 3 k)
+  listed-more i e k = rw (add-one, e, eq-eqb i i refl, eq-eqb (getD b (lineAt l i) 0) 3 k)
 
-  pub listed-stop : (i m : ℕ) → listed b i ≡ i → getD b (lineAt i) 0 ≢ 3 → i < m → listed b m ≡ i
+  pub listed-stop : (i m : ℕ) → listed l b i ≡ i → getD b (lineAt l i) 0 ≢ 3 → i < m → listed l b m ≡ i
   unfolding listed
-  listed-stop i zero e n l = absurd (omega arith)
-  listed-stop i (suc m) e n l =
+  listed-stop i zero e n h = absurd (omega arith)
+  listed-stop i (suc m) e n h =
       ⊎-elim
-      (λ (q : i ≡ m). rw (← q, e, eq-eqb i i refl, ne-eqb (getD b (lineAt i) 0) 3 n))
+      (λ (q : i ≡ m). rw (← q, e, eq-eqb i i refl, ne-eqb (getD b (lineAt l i) 0) 3 n))
       (λ (q : i < m). let r = listed-stop i m e n q in rw (r, ne-eqb i m (λ z. omega arith)))
       (let q : i ≤ m = omega arith in eq-or-lt-of-le q)
 
-  listed-none : listed b 0 ≡ 0
+  listed-none : listed l b 0 ≡ 0
   unfolding listed
   listed-none = refl
 
-  pub listed-le : (m : ℕ) → listed b m ≤ m
+  pub listed-le : (m : ℕ) → listed l b m ≤ m
   unfolding listed
   listed-le zero = omega arith
-  listed-le (suc m) = go (eqb (listed b m) m && eqb (getD b (lineAt m) 0) 3) (listed-le m)
+  listed-le (suc m) = go (eqb (listed l b m) m && eqb (getD b (lineAt l m) 0) 3) (listed-le m)
     where
-      go : (v : Bool) → listed b m ≤ m → cond v (suc m) (listed b m) ≤ suc m
+      go : (v : Bool) → listed l b m ≤ m → cond v (suc m) (listed l b m) ≤ suc m
       go true h = omega arith
       go false h = omega arith
 
-  pub listed-full : (m : ℕ) → ((i : ℕ) → i < m → getD b (lineAt i) 0 ≡ 3) → listed b m ≡ m
+  pub listed-full : (m : ℕ) → ((i : ℕ) → i < m → getD b (lineAt l i) 0 ≡ 3) → listed l b m ≡ m
   listed-full zero h = listed-none
   listed-full (suc m) h = rw (← add-one m) (listed-more m (listed-full m (λ i l. h i (omega arith))) (h m (omega arith)))
+
+-- THE LENGTH SAYS THE LAYOUT AND THE SLOTS
+weeks-back : (w : Weeks) (n : ℕ) → weeksFor (sizeOf (record { weeks = w }) n) ≡ w
+weeks-back tenBit n = let e : (313 + 320 * n) % 320 ≢ 317 = λ h. omega arith in rw (ne-eqb ((313 + 320 * n) % 320) 317 e)
+weeks-back thirteenBit n = let e : (317 + 320 * n) % 320 ≡ 317 = omega arith in rw (eq-eqb ((317 + 320 * n) % 320) 317 e)
+
+pub layout-back : (l : Layout) (n : ℕ) → layoutOf (sizeOf l n) ≡ l
+unfolding layoutOf
+layout-back l n = ap (λ (w : Weeks). record { weeks = w }) (weeks-back (l .weeks) n)
+
+pub slots-back : (l : Layout) (n : ℕ) → slotsIn (sizeOf l n) ≡ n
+slots-back l n = rw (layout-back l n) (omega arith)
 
 -- what is read where there is no line
 abbrev pub noLine : Line
 noLine = record { address = 0; share = 0; limit = 0 }
 
 module _ (t : Table) (lines : length (t .roster) ≤ 16) (f : Fits t) where
-  pub slot-at : (i : ℕ) → i < length (t .slots) → readSlot (tableBytes t) (slotAt i) ≡ getD (t .slots) i free
+  pub slot-at : (i : ℕ) → i < length (t .slots) → readSlot (tableBytes t) (slotAt (t .layout) i) ≡ getD (t .slots) i free
   unfolding tableBytes
   slot-at i l =
-      let p = (clockBytes (t .clock) ++ rosterBytes (t .roster)) ++ flat slotBytes (take i (t .slots)) in
+      let p = (clockBytes (t .layout) (t .clock) ++ rosterBytes (t .roster)) ++ flat slotBytes (take i (t .slots)) in
       let q = flat slotBytes (drop (suc i) (t .slots)) in
       let s = getD (t .slots) i free in
-      let e : clockBytes (t .clock) ++ (rosterBytes (t .roster) ++ flat slotBytes (t .slots)) ≡ p ++ (slotBytes s ++ q) =
-      sym (append-assoc (clockBytes (t .clock)) (rosterBytes (t .roster)) (flat slotBytes (t .slots)))
-      ∙ ap (λ (z : List ℕ). (clockBytes (t .clock) ++ rosterBytes (t .roster)) ++ z) (flat-cut slotBytes (t .slots) i free l)
-      ∙ sym (append-assoc (clockBytes (t .clock) ++ rosterBytes (t .roster)) (flat slotBytes (take i (t .slots))) (slotBytes s ++ q)) in
-      let pk : length p ≡ slotAt i =
+      let e : clockBytes (t .layout) (t .clock) ++ (rosterBytes (t .roster) ++ flat slotBytes (t .slots)) ≡ p ++ (slotBytes s ++ q) =
+      sym (append-assoc (clockBytes (t .layout) (t .clock)) (rosterBytes (t .roster)) (flat slotBytes (t .slots)))
+      ∙ ap (λ (z : List ℕ). (clockBytes (t .layout) (t .clock) ++ rosterBytes (t .roster)) ++ z) (flat-cut slotBytes (t .slots) i free l)
+      ∙ sym (append-assoc (clockBytes (t .layout) (t .clock) ++ rosterBytes (t .roster)) (flat slotBytes (take i (t .slots))) (slotBytes s ++ q)) in
+      let pk : length p ≡ slotAt (t .layout) i =
       rw (
         length-append,
         length-append,
-        length-clock (t .clock),
+        length-clock (t .layout) (t .clock),
         length-roster (t .roster) lines,
         length-front slotBytes 320 (t .slots) (fits-rows t lines f) i (omega arith),
       ) in
-      ap (λ (z : List ℕ). readSlot z (slotAt i)) e ∙ slot-back p (slotAt i) s q pk (f .slots i l)
+      ap (λ (z : List ℕ). readSlot z (slotAt (t .layout) i)) e ∙ slot-back p (slotAt (t .layout) i) s q pk (f .slots i l)
 
   rest : List ℕ
   rest = flat (λ (i : ℕ). unusedLine) (upTo (16 - length (t .roster)) (λ i. i)) ++ flat slotBytes (t .slots)
 
   abbrev lines-before : ℕ → List ℕ
-  lines-before i = clockBytes (t .clock) ++ flat lineBytes (take i (t .roster))
+  lines-before i = clockBytes (t .layout) (t .clock) ++ flat lineBytes (take i (t .roster))
 
   abbrev lines-after : ℕ → List ℕ
   lines-after i = flat lineBytes (drop (suc i) (t .roster)) ++ rest
@@ -90,67 +103,76 @@ module _ (t : Table) (lines : length (t .roster) ≤ 16) (f : Fits t) where
   unfolding tableBytes rosterBytes rest
   lines-cut i l = rw (flat-cut lineBytes (t .roster) i noLine l) (simp append-assoc)
 
-  head-length : (i : ℕ) → i ≤ length (t .roster) → length (lines-before i) ≡ lineAt i
+  head-length : (i : ℕ) → i ≤ length (t .roster) → length (lines-before i) ≡ lineAt (t .layout) i
   head-length i l =
-      rw (length-append, length-clock (t .clock), length-front lineBytes 19 (t .roster) (λ j d m. length-line (getD (t .roster) j d)) i l)
+      rw (length-append, length-clock (t .layout) (t .clock), length-front lineBytes 19 (t .roster) (λ j d m. length-line (getD (t .roster) j d)) i l)
 
-  kind-at : (i : ℕ) → i < length (t .roster) → getD (tableBytes t) (lineAt i) 0 ≡ 3
+  kind-at : (i : ℕ) → i < length (t .roster) → getD (tableBytes t) (lineAt (t .layout) i) 0 ≡ 3
   kind-at i l =
-      ap (λ (z : List ℕ). getD z (lineAt i) 0) (lines-cut i l)
-      ∙ line-kind (lines-before i) (lineAt i) (getD (t .roster) i noLine) (lines-after i) (head-length i (omega arith)) (f .lines i l)
+      ap (λ (z : List ℕ). getD z (lineAt (t .layout) i) 0) (lines-cut i l)
+      ∙ line-kind (lines-before i) (lineAt (t .layout) i) (getD (t .roster) i noLine) (lines-after i) (head-length i (omega arith)) (f .lines i l)
 
-  line-at : (i : ℕ) → i < length (t .roster) → readLine (tableBytes t) (lineAt i) ≡ getD (t .roster) i noLine
+  line-at : (i : ℕ) → i < length (t .roster) → readLine (tableBytes t) (lineAt (t .layout) i) ≡ getD (t .roster) i noLine
   line-at i l =
-      ap (λ (z : List ℕ). readLine z (lineAt i)) (lines-cut i l)
-      ∙ line-back (lines-before i) (lineAt i) (getD (t .roster) i noLine) (lines-after i) (head-length i (omega arith)) (f .lines i l)
+      ap (λ (z : List ℕ). readLine z (lineAt (t .layout) i)) (lines-cut i l)
+      ∙ line-back (lines-before i) (lineAt (t .layout) i) (getD (t .roster) i noLine) (lines-after i) (head-length i (omega arith)) (f .lines i l)
 
   unused-cut : (m : ℕ)
       → flat (λ (i : ℕ). unusedLine) (upTo (suc m) (λ i. i)) ≡ 2 ∷ (replicate 18 0 ++ flat (λ (i : ℕ). unusedLine) (drop 1 (upTo (suc m) (λ i. i))))
   unfolding unusedLine flat
   unused-cut m = flat-cut (λ (i : ℕ). unusedLine) (upTo (suc m) (λ i. i)) 0 0 (rw (length-upTo (suc m) (λ i. i)) (omega arith))
 
-  kind-after : length (t .roster) < 16 → getD (tableBytes t) (lineAt (length (t .roster))) 0 ≡ 2
+  kind-after : length (t .roster) < 16 → getD (tableBytes t) (lineAt (t .layout) (length (t .roster))) 0 ≡ 2
   unfolding tableBytes rosterBytes
   kind-after h =
       let m = length (t .roster) in
-      let p = clockBytes (t .clock) ++ flat lineBytes (t .roster) in
+      let p = clockBytes (t .layout) (t .clock) ++ flat lineBytes (t .roster) in
       let k : 16 - m ≡ suc (15 - m) = omega arith in
       let q = (replicate 18 0 ++ flat (λ (i : ℕ). unusedLine) (drop 1 (upTo (suc (15 - m)) (λ i. i)))) ++ flat slotBytes (t .slots) in
-      let lp : length p ≡ lineAt m =
-      rw (length-append, length-clock (t .clock), length-flat lineBytes 19 (t .roster) (λ j d l. length-line (getD (t .roster) j d))) in
+      let lp : length p ≡ lineAt (t .layout) m =
+      rw (length-append, length-clock (t .layout) (t .clock), length-flat lineBytes 19 (t .roster) (λ j d l. length-line (getD (t .roster) j d))) in
       let u = flat (λ (i : ℕ). unusedLine) (upTo (16 - m) (λ i. i)) in
-      let e : clockBytes (t .clock) ++ ((flat lineBytes (t .roster) ++ u) ++ flat slotBytes (t .slots)) ≡ p ++ (2 ∷ q) =
+      let e : clockBytes (t .layout) (t .clock) ++ ((flat lineBytes (t .roster) ++ u) ++ flat slotBytes (t .slots)) ≡ p ++ (2 ∷ q) =
       rw (k, unused-cut (15 - m)) (simp append-assoc) in
-      ap (λ (z : List ℕ). getD z (lineAt m) 0) e ∙ getD-at p 2 q 0 (lineAt m) lp
+      ap (λ (z : List ℕ). getD z (lineAt (t .layout) m) 0) e ∙ getD-at p 2 q 0 (lineAt (t .layout) m) lp
 
-  listed-is : listed (tableBytes t) 16 ≡ length (t .roster)
+  listed-is : listed (t .layout) (tableBytes t) 16 ≡ length (t .roster)
   listed-is =
-      let full = listed-full (tableBytes t) (length (t .roster)) (λ i l. kind-at i l) in
+      let full = listed-full (t .layout) (tableBytes t) (length (t .roster)) (λ i l. kind-at i l) in
       ⊎-elim
       (λ (q : length (t .roster) ≡ 16). (rw q at full) ∙ sym q)
-      (λ (q : length (t .roster) < 16). listed-stop (tableBytes t) (length (t .roster)) 16 full (λ z. omega (arith, kind-after q)) q)
+      (λ (q : length (t .roster) < 16). listed-stop (t .layout) (tableBytes t) (length (t .roster)) 16 full (λ z. omega (arith, kind-after q)) q)
       (eq-or-lt-of-le lines)
 
-  place-back : bigEndian (tableBytes t) 1 4 ≡ t .clock .place
+  place-back : bigEndian (tableBytes t) 1 (placeBytes (t .layout)) ≡ t .clock .place
   unfolding tableBytes clockBytes
   place-back =
-      field-behind [] 0 ((1, 1) ∷ clockFields (t .clock)) (rosterBytes (t .roster) ++ flat slotBytes (t .slots)) 1 refl (lit< tt) (f .place)
+      field-behind [] 0 ((1, clockKind (t .layout)) ∷ clockFields (t .layout) (t .clock)) (rosterBytes (t .roster) ++ flat slotBytes (t .slots)) 1 refl (lit< tt)
+      (f .place)
 
-  running-back : bigEndian (tableBytes t) 5 4 ≡ t .clock .running
+  running-back : bigEndian (tableBytes t) (runningAt (t .layout)) 4 ≡ t .clock .running
   unfolding tableBytes clockBytes
   running-back =
-      field-behind [] 0 ((1, 1) ∷ clockFields (t .clock)) (rosterBytes (t .roster) ++ flat slotBytes (t .slots)) 2 refl (lit< tt) (f .running)
+      ap (λ (k : ℕ). bigEndian (tableBytes t) k 4) (omega arith)
+      ∙ field-behind [] 0 ((1, clockKind (t .layout)) ∷ clockFields (t .layout) (t .clock)) (rosterBytes (t .roster) ++ flat slotBytes (t .slots)) 2 refl (lit< tt)
+      (f .running)
+
+  pub layout-kept : layoutOf (length (tableBytes t)) ≡ t .layout
+  layout-kept = ap layoutOf (length-table t lines f) ∙ layout-back (t .layout) (length (t .slots))
 
   size-back : slotsIn (length (tableBytes t)) ≡ length (t .slots)
-  size-back = omega (arith, length-table t lines f)
+  size-back = ap slotsIn (length-table t lines f) ∙ slots-back (t .layout) (length (t .slots))
 
   pub table-back : readTable (tableBytes t) ≡ t
   unfolding readTable
   table-back =
       let b = tableBytes t in
-      let ss : upTo (length (t .slots)) (λ i. readSlot b (slotAt i)) ≡ t .slots =
-      upTo-ext (length (t .slots)) (λ i. readSlot b (slotAt i)) (λ i. getD (t .slots) i free) (λ i l. slot-at i l) ∙ upTo-getD (t .slots) free in
-      let rs : upTo (length (t .roster)) (λ i. readLine b (lineAt i)) ≡ t .roster =
-      upTo-ext (length (t .roster)) (λ i. readLine b (lineAt i)) (λ i. getD (t .roster) i noLine) (λ i l. line-at i l)
+      let l = t .layout in
+      let ss : upTo (length (t .slots)) (λ i. readSlot b (slotAt l i)) ≡ t .slots =
+      upTo-ext (length (t .slots)) (λ i. readSlot b (slotAt l i)) (λ i. getD (t .slots) i free) (λ i h. slot-at i h) ∙ upTo-getD (t .slots) free in
+      let rs : upTo (length (t .roster)) (λ i. readLine b (lineAt l i)) ≡ t .roster =
+      upTo-ext (length (t .roster)) (λ i. readLine b (lineAt l i)) (λ i. getD (t .roster) i noLine) (λ i h. line-at i h)
       ∙ upTo-getD (t .roster) noLine in
-      rw (place-back, running-back, listed-is, size-back, ss, rs)
+      ap (λ (k : Layout). readBy k (slotsIn (length b)) b) layout-kept
+      ∙ ap (λ (n : ℕ). readBy l n b) size-back
+      ∙ (rw (place-back, running-back, listed-is, ss, rs))

@@ -7,13 +7,13 @@ use mathlib.Core.Bool.{Bool, true, false, not, cond}
 use mathlib.Core.List.{List, [], _∷_, map}
 use mathlib.Core.Logic.{_⊎_, inl, inr}
 use lib.ListN.{length, getD, set, length-set}
-use lib.Dec.{eqb, leb, ltb}
+use lib.Dec.{eqb, leb, ltb, lit≤}
 use borrow.Author.Tests.{leb-true, ltb-true, ltb-false, not-true}
 use Rattle.model.specs.Lists.{count, keep, every, indexOf}
 use Rattle.model.specs.Numbers.{Bytes}
-use Rattle.model.specs.Clock.{Clock, cycle, advance, ageAt}
+use Rattle.model.specs.Clock.{Clock, Weeks, tenBit, thirteenBit, cycleOf, advance, ageAt}
 use Rattle.model.specs.Query.{Question, LlqOption, goodQuestion, questionAt}
-use Rattle.model.specs.Table.{Entry, Slot, free, held, Table}
+use Rattle.model.specs.Table.{Entry, Slot, free, held, Table, placeWith, placeBytes, cycleIn}
 use Rattle.model.specs.Rules.{Holding, holding, entriesOf, holdings, asks, full, grantedLease}
 use Rattle.model.specs.Sound.{live, validLease, FitsEntry, FitsSlot, Fits, Sound}
 use Rattle.model.specs.Serve.{withClock, withSlots, withSlot, slotRunOut, freeIfRunOut, freeRunOut, movedOn, isFree, findEntry, slotOf, Sender, Kind, badVersion, badFormat, setup, response, refresh, Served, kindOfOption, newEntry, retryLater, granted, establish, renew, answers, refreshes, onSetup, serveSetup, onResponse, serveResponse, onRefresh, serveRefresh, serveKind, serveOption}
@@ -119,7 +119,7 @@ pub fits-with-slot : (t : Table) (i : ℕ) (x : Slot) → Fits t → FitsSlot x 
 fits-with-slot t i x f g =
     fits-with-slots t (set (t .slots) i x) f (λ j l. set-fits (t .slots) i x g (f .slots) j (rw (length-set (t .slots) i x) at l))
 
-pub fits-with-clock : (t : Table) (c : Clock) → Fits t → c .place < 256 ^ 4 → c .running < 256 ^ 4 → Fits (withClock t c)
+pub fits-with-clock : (t : Table) (c : Clock) → Fits t → c .place < 256 ^ placeBytes (t .layout) → c .running < 256 ^ 4 → Fits (withClock t c)
 fits-with-clock t c f p r = record { place = p; running = r; lines = f .lines; slots = f .slots }
 
 pub fits-free : (t : Table) → Fits t → Fits (freeRunOut t)
@@ -137,8 +137,17 @@ fits-slot-of t i f = go (ltb i (length (t .slots))) refl
 
 -- THE CLOCK MOVED AND RUN-OUT ENTRIES FREED
 
+-- a place under the cycle fits its field
+pub cycle-fits : (w : Weeks) → cycleOf w ≤ 256 ^ placeWith w
+cycle-fits tenBit = lit≤ tt
+cycle-fits thirteenBit = lit≤ tt
+
 module _ (t : Table) (to : ℕ) where
-  pub moved-clock : movedOn t to .clock ≡ advance (t .clock) to
+  pub moved-layout : movedOn t to .layout ≡ t .layout
+  unfolding movedOn
+  moved-layout = refl
+
+  pub moved-clock : movedOn t to .clock ≡ advance (cycleIn t) (t .clock) to
   unfolding movedOn
   moved-clock = refl
 
@@ -148,33 +157,35 @@ module _ (t : Table) (to : ℕ) where
 
   pub moved-length : length (movedOn t to .slots) ≡ length (t .slots)
   unfolding movedOn
-  moved-length = length-map (freeIfRunOut (advance (t .clock) to .running)) (t .slots)
+  moved-length = length-map (freeIfRunOut (advance (cycleIn t) (t .clock) to .running)) (t .slots)
 
-  pub moved-fits : Fits t → t .clock .place < cycle → to < cycle → Fits (movedOn t to)
+  pub moved-fits : Fits t → t .clock .place < cycleIn t → to < cycleIn t → Fits (movedOn t to)
   unfolding movedOn
   moved-fits f h l =
-      fits-free (withClock t (advance (t .clock) to))
-      (fits-with-clock t (advance (t .clock) to) f (omega (arith, advance-place (t .clock) to h l)) (advance-running (t .clock) to (f .running)))
+      fits-free (withClock t (advance (cycleIn t) (t .clock) to))
+      (fits-with-clock t (advance (cycleIn t) (t .clock) to) f (omega (arith, advance-place (cycleIn t) (t .clock) to h l, cycle-fits (t .layout .weeks)))
+      (advance-running (cycleIn t) (t .clock) to (f .running)))
 
   -- the entries that have not run out, at the moved count
-  pub moved-holdings : holdings (movedOn t to) ≡ keep live (entriesOf (advance (t .clock) to .running) (t .slots))
+  pub moved-holdings : holdings (movedOn t to) ≡ keep live (entriesOf (advance (cycleIn t) (t .clock) to .running) (t .slots))
   unfolding movedOn
-  moved-holdings = entries-freed (advance (t .clock) to .running) (t .slots)
+  moved-holdings = entries-freed (advance (cycleIn t) (t .clock) to .running) (t .slots)
 
 -- ONE OPTION
 
 -- what it keeps
 pub record Keeps (t u : Table) : Type 0 where
+  pub layout : u .layout ≡ t .layout
   pub clock : u .clock ≡ t .clock
   pub roster : u .roster ≡ t .roster
   pub length : length (u .slots) ≡ length (t .slots)
   pub fits : Fits u
 
 keeps-all : (t : Table) → Fits t → Keeps t t
-keeps-all t f = record { clock = refl; roster = refl; length = refl; fits = f }
+keeps-all t f = record { layout = refl; clock = refl; roster = refl; length = refl; fits = f }
 
 keeps-slot : (t : Table) (i : ℕ) (x : Slot) → Fits t → FitsSlot x → Keeps t (withSlot t i x)
-keeps-slot t i x f g = record { clock = refl; roster = refl; length = length-set (t .slots) i x; fits = fits-with-slot t i x f g }
+keeps-slot t i x f g = record { layout = refl; clock = refl; roster = refl; length = length-set (t .slots) i x; fits = fits-with-slot t i x f g }
 
 module _ (s : Sender) (r : ℕ) (q : Question) (o : LlqOption) (t : Table) (fs : FitsSender s) (fq : FitsQuestion q) (f : Fits t) where
   on-setup : (x : Slot) → Keeps t (onSetup s r q o t x .table)
@@ -272,7 +283,7 @@ entries-older r d (held e ∷ s) hr f v =
     cc
 
 -- no age of a sound table passes the count's range in one step
-pub young : (t : Table) (n : ℕ) → n < 309657600 → Sound t → every (λ h. ltb (h .age + n) (2 ^ 32)) (holdings t) ≡ true
+pub young : (t : Table) (n : ℕ) → n + 7200 ≤ 2 ^ 32 → Sound t → every (λ h. ltb (h .age + n) (2 ^ 32)) (holdings t) ≡ true
 young t n l s =
     none-every (λ h. ltb (h .age + n) (2 ^ 32)) (holdings t)
     (let m = count-both (holdings t) (λ h. not (live h)) (λ h. not (validLease h)) (λ h. not (ltb (h .age + n) (2 ^ 32))) (λ h p. old h p) in

@@ -10,8 +10,8 @@ use lib.Seq.{split-at, set-split, length-take-le, getD-take}
 use lib.Dec.{lit<}
 use Rattle.model.specs.Lists.{upTo, flat}
 use Rattle.model.specs.Numbers.{Bytes, splice, encode}
-use Rattle.model.specs.Clock.{Clock}
-use Rattle.model.specs.Table.{Line, Slot, free, held, Table, slotBytes, lineBytes, unusedLine, rosterBytes, clockBytes, tableBytes, slotAt, sizeOf}
+use Rattle.model.specs.Clock.{Clock, Weeks, tenBit, thirteenBit}
+use Rattle.model.specs.Table.{Line, Slot, free, held, Layout, Table, slotBytes, lineBytes, unusedLine, rosterBytes, kindWith, clockKind, placeBytes, clockBytes, tableBytes, linesAt, base, slotAt, sizeOf}
 use Rattle.model.specs.Sound.{FitsSlot, Fits}
 use Rattle.model.specs.Serve.{withSlot, withClock}
 use Rattle.model.proofs.NumberLaws.{splice-none, splice-splice, splice-mid, length-encode, encode-first, bytes-nil, bytes-append, bytes-cons, bytes-encode, bytes-zeros}
@@ -63,9 +63,9 @@ length-roster ls h =
     let l2 = length-rows (λ (i : ℕ). unusedLine) 19 (16 - length ls) (λ i. i) (λ i l. length-unused) in
     rw (length-append, l1, l2) (omega arith)
 
-pub length-clock : (c : Clock) → length (clockBytes c) ≡ 9
+pub length-clock : (l : Layout) (c : Clock) → length (clockBytes l c) ≡ linesAt l
 unfolding clockBytes
-length-clock c = length-encode _
+length-clock l c = length-encode ((1, clockKind l) ∷ (placeBytes l, c .place) ∷ (4, c .running) ∷ []) ∙ (omega arith)
 
 -- ALL ARE BYTES
 
@@ -96,14 +96,14 @@ bytes-roster ls =
     (bytes-flat lineBytes (record { address = 0; share = 0; limit = 0 }) ls (λ i m. bytes-line _))
     (bytes-flat (λ (i : ℕ). unusedLine) 0 (upTo (16 - length ls) (λ i. i)) (λ i m. bytes-unused))
 
-bytes-clock : (c : Clock) → Bytes (clockBytes c)
+bytes-clock : (l : Layout) (c : Clock) → Bytes (clockBytes l c)
 unfolding clockBytes
-bytes-clock c = bytes-encode _
+bytes-clock l c = bytes-encode _
 
 pub bytes-table : (t : Table) → Fits t → Bytes (tableBytes t)
 unfolding tableBytes
 bytes-table t f =
-    bytes-append (clockBytes (t .clock)) (rosterBytes (t .roster) ++ flat slotBytes (t .slots)) (bytes-clock (t .clock))
+    bytes-append (clockBytes (t .layout) (t .clock)) (rosterBytes (t .roster) ++ flat slotBytes (t .slots)) (bytes-clock (t .layout) (t .clock))
     (bytes-append (rosterBytes (t .roster)) (flat slotBytes (t .slots)) (bytes-roster (t .roster))
     (bytes-flat slotBytes free (t .slots) (λ i m. bytes-slot (getD (t .slots) i free) (f .slots i m))))
 
@@ -113,36 +113,44 @@ module _ (t : Table) (lines : length (t .roster) ≤ 16) (f : Fits t) where
   pub fits-rows : (i : ℕ) (d : Slot) → i < length (t .slots) → length (slotBytes (getD (t .slots) i d)) ≡ 320
   fits-rows i d l = rw (getD-any (t .slots) i d free l) (length-slot (getD (t .slots) i free) (fits-short (getD (t .slots) i free) (f .slots i l)))
 
-  length-head : length (clockBytes (t .clock) ++ rosterBytes (t .roster)) ≡ 313
-  length-head = rw (length-append, length-clock (t .clock), length-roster (t .roster) lines)
+  length-head : length (clockBytes (t .layout) (t .clock) ++ rosterBytes (t .roster)) ≡ base (t .layout)
+  length-head = rw (length-append, length-clock (t .layout) (t .clock), length-roster (t .roster) lines)
 
-  pub length-table : length (tableBytes t) ≡ sizeOf (length (t .slots))
+  pub length-table : length (tableBytes t) ≡ sizeOf (t .layout) (length (t .slots))
   unfolding tableBytes
   length-table =
-      rw (length-append, length-append, length-clock (t .clock), length-roster (t .roster) lines, length-flat slotBytes 320 (t .slots) fits-rows)
+      rw (length-append, length-append, length-clock (t .layout) (t .clock), length-roster (t .roster) lines, length-flat slotBytes 320 (t .slots) fits-rows)
       (omega arith)
 
   -- slot i written over: the table with that slot
-  pub with-slot : (i : ℕ) (s : Slot) → i < length (t .slots) → splice (slotAt i) 320 (slotBytes s) (tableBytes t) ≡ tableBytes (withSlot t i s)
+  pub with-slot : (i : ℕ) (s : Slot) → i < length (t .slots) → splice (slotAt (t .layout) i) 320 (slotBytes s) (tableBytes t) ≡ tableBytes (withSlot t i s)
   unfolding tableBytes
   with-slot i s h =
-      sym (ap (splice (slotAt i) 320 (slotBytes s)) (append-assoc (clockBytes (t .clock)) (rosterBytes (t .roster)) (flat slotBytes (t .slots))))
-      ∙ flat-set slotBytes 320 (t .slots) fits-rows (clockBytes (t .clock) ++ rosterBytes (t .roster)) 313 i s length-head h
-      ∙ append-assoc (clockBytes (t .clock)) (rosterBytes (t .roster)) (flat slotBytes (set (t .slots) i s))
+      sym (ap (splice (slotAt (t .layout) i) 320 (slotBytes s)) (append-assoc (clockBytes (t .layout) (t .clock)) (rosterBytes (t .roster)) (flat slotBytes (t .slots))))
+      ∙ flat-set slotBytes 320 (t .slots) fits-rows (clockBytes (t .layout) (t .clock) ++ rosterBytes (t .roster)) (base (t .layout)) i s length-head h
+      ∙ append-assoc (clockBytes (t .layout) (t .clock)) (rosterBytes (t .roster)) (flat slotBytes (set (t .slots) i s))
 
--- the clock's 8 bytes written over: the table with that clock
-abbrev pub clockFields : Clock → List (ℕ × ℕ)
-clockFields c = (4, c .place) ∷ (4, c .running) ∷ []
+-- the clock's bytes behind its kind written over: the table with that clock
+abbrev pub clockFields : Layout → Clock → List (ℕ × ℕ)
+clockFields l c = (placeBytes l, c .place) ∷ (4, c .running) ∷ []
 
-pub clock-starts : (c : Clock) → clockBytes c ≡ 1 ∷ encode (clockFields c)
+kind-byte : (w : Weeks) → kindWith w < 256
+kind-byte tenBit = lit< tt
+kind-byte thirteenBit = lit< tt
+
+pub clock-starts : (l : Layout) (c : Clock) → clockBytes l c ≡ clockKind l ∷ encode (clockFields l c)
 unfolding clockBytes
-clock-starts c = encode-first 1 (clockFields c) (lit< tt)
+clock-starts l c = encode-first (clockKind l) (clockFields l c) (kind-byte (l .weeks))
 
-over-clock : (c d : Clock) (q : List ℕ) → splice 1 8 (encode (clockFields d)) (clockBytes c ++ q) ≡ clockBytes d ++ q
-over-clock c d q =
-    rw (clock-starts c, clock-starts d)
-    (splice-mid (1 ∷ []) (encode (clockFields c)) q (encode (clockFields d)) 1 8 refl (length-encode (clockFields c)))
+pub length-clock-fields : (l : Layout) (c : Clock) → length (encode (clockFields l c)) ≡ placeBytes l + 4
+length-clock-fields l c = length-encode (clockFields l c)
 
-pub with-clock : (t : Table) (c : Clock) → splice 1 8 (encode (clockFields c)) (tableBytes t) ≡ tableBytes (withClock t c)
+over-clock : (l : Layout) (c d : Clock) (q : List ℕ) → splice 1 (placeBytes l + 4) (encode (clockFields l d)) (clockBytes l c ++ q) ≡ clockBytes l d ++ q
+over-clock l c d q =
+    rw (clock-starts l c, clock-starts l d)
+    (splice-mid (clockKind l ∷ []) (encode (clockFields l c)) q (encode (clockFields l d)) 1 (placeBytes l + 4) refl (length-clock-fields l c))
+
+pub with-clock : (t : Table) (c : Clock)
+    → splice 1 (placeBytes (t .layout) + 4) (encode (clockFields (t .layout) c)) (tableBytes t) ≡ tableBytes (withClock t c)
 unfolding tableBytes
-with-clock t c = over-clock (t .clock) c (rosterBytes (t .roster) ++ flat slotBytes (t .slots))
+with-clock t c = over-clock (t .layout) (t .clock) c (rosterBytes (t .roster) ++ flat slotBytes (t .slots))

@@ -8,7 +8,7 @@ use lib.Dec.{eqb, leb, ltb}
 use Rattle.model.specs.Lists.{count, every, upTo}
 use Rattle.model.specs.Clock.{Clock, validReading, placeOf, advance}
 use Rattle.model.specs.Query.{wrongSize, goodHeader, qdcount, goodQuestions, questionsEnd, goodOpt, llqOptions, matched, question, llqOption}
-use Rattle.model.specs.Table.{Line, Slot, free, Table, tableBytes, readTable, readLine, sizeOf, slotsIn}
+use Rattle.model.specs.Table.{Line, Slot, free, Table, tableBytes, readTable, readLine, sizeOf, layoutOf, slotsIn, cycleIn}
 use Rattle.model.specs.Sound.{soundBytes, soundRoster}
 use Rattle.model.specs.Serve.{Sender, Outcome, serveOption, withClock, slotRunOut, movedOn}
 use Rattle.model.specs.Reply.{replyBytes, replyLength, mismatch}
@@ -59,9 +59,9 @@ refusal (k ∷ ks) = cond (k .1) (k .0) (refusal ks)
 
 -- MAKING
 
--- the length is that of a table of 1 to 64 slots
+-- the length is that of a table of 1 to 64 slots, in the layout that the length has
 unfoldable pub tableLength : ℕ → Bool
-tableLength size = leb 1 (slotsIn size) && leb (slotsIn size) 64 && eqb size (sizeOf (slotsIn size))
+tableLength size = leb 1 (slotsIn size) && leb (slotsIn size) 64 && eqb size (sizeOf (layoutOf size) (slotsIn size))
 
 -- the roster's records
 abbrev pub rosterCount : List ℕ → ℕ
@@ -78,15 +78,24 @@ goodRoster n r =
 
 unfoldable pub makeRefusal : MakeCall → ℕ → ℕ
 makeRefusal c size =
-    refusal ((1, not (tableLength size)) ∷ (2, not (validReading (c .week) (c .second))) ∷ (9, not (goodRoster (slotsIn size) (c .roster))) ∷ [])
+    refusal
+    ((1, not (tableLength size))
+    ∷ (2, not (validReading (layoutOf size .weeks) (c .week) (c .second)))
+    ∷ (9, not (goodRoster (slotsIn size) (c .roster)))
+    ∷ [])
 
--- that reading's place, running count 0, the roster in the order given, and free slots
+-- the layout that the length has, that reading's place, running count 0, the roster in the order given, and free slots
 unfoldable pub freshTable : MakeCall → ℕ → Table
-freshTable c n =
-    record { clock = record { place = placeOf (c .week) (c .second); running = 0 }; roster = rosterLines (c .roster); slots = replicate n free }
+freshTable c size =
+    record {
+      layout = layoutOf size;
+      clock = record { place = placeOf (c .week) (c .second); running = 0 };
+      roster = rosterLines (c .roster);
+      slots = replicate (slotsIn size) free;
+    }
 
 abbrev pub madeBy : ℕ → MakeCall → List ℕ → Made
-madeBy zero c b = record { number = 0; table = tableBytes (freshTable c (slotsIn (length b))) }
+madeBy zero c b = record { number = 0; table = tableBytes (freshTable c (length b)) }
 madeBy (suc k) c b = record { number = suc k; table = b }
 
 unfoldable pub make : MakeCall → List ℕ → Made
@@ -95,11 +104,11 @@ make c b = madeBy (makeRefusal c (length b)) c b
 -- TICKING
 
 unfoldable pub tickRefusal : TickCall → List ℕ → ℕ
-tickRefusal c b = refusal ((1, not (soundBytes b)) ∷ (2, not (validReading (c .week) (c .second))) ∷ [])
+tickRefusal c b = refusal ((1, not (soundBytes b)) ∷ (2, not (validReading (layoutOf (length b) .weeks) (c .week) (c .second))) ∷ [])
 
 -- how many entries the call frees because they have run out: those that have at the moved count
 unfoldable pub freedBy : Table → ℕ → ℕ
-freedBy t place = count (t .slots) (slotRunOut (advance (t .clock) place .running))
+freedBy t place = count (t .slots) (slotRunOut (advance (cycleIn t) (t .clock) place .running))
 
 abbrev pub tickedBy : ℕ → TickCall → List ℕ → Ticked
 tickedBy zero c b =
@@ -116,7 +125,7 @@ serveRefusal c b =
     let d = c .datagram in
     refusal
     ((1, not (soundBytes b))
-    ∷ (2, not (validReading (c .week) (c .second)))
+    ∷ (2, not (validReading (layoutOf (length b) .weeks) (c .week) (c .second)))
     ∷ (3, wrongSize d)
     ∷ (4, not (goodHeader d))
     ∷ (5, not (goodQuestions d (qdcount d)))

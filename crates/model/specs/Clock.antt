@@ -10,25 +10,34 @@ pub record Clock : Type 0 where
   pub place : ℕ
   pub running : ℕ
 
--- a reading is a week 0 to 1,023 (IS-GPS-200, ten bits) and a second 0 to 604,799
-abbrev pub validReading : ℕ → ℕ → Bool
-validReading week second = ltb week 1024 && ltb second 604800
+-- the weeks that a receiver sends: of ten bits (IS-GPS-200), or of thirteen (document 02, Ticket 7)
+pub data Weeks : Type 0 where
+  tenBit : Weeks
+  thirteenBit : Weeks
+
+-- how many there are, and the seconds after which the week is back at 0
+abbrev pub weeksIn : Weeks → ℕ
+weeksIn tenBit = 1024
+weeksIn thirteenBit = 8192
+
+abbrev pub cycleOf : Weeks → ℕ
+cycleOf w = weeksIn w * 604800
+
+-- a reading is a week 0 to 1,023, or to 8,191, and a second 0 to 604,799
+abbrev pub validReading : Weeks → ℕ → ℕ → Bool
+validReading w week second = ltb week (weeksIn w) && ltb second 604800
 
 -- its place
 abbrev pub placeOf : ℕ → ℕ → ℕ
 placeOf week second = week * 604800 + second
 
--- 1,024 weeks: the ten-bit week is back at 0
-abbrev pub cycle : ℕ
-cycle = 619315200
-
 -- a difference of two places brought, by whole cycles c, into −c/2 to c/2 − 1
 unfoldable pub brought : ℕ → ℤ → ℤ
 brought c z = cond (ltZ z (negℤ (pos (c / 2)))) (z +ℤ pos c) (cond (ltZ z (pos (c / 2))) z (z -ℤ pos c))
 
--- the step from the last place to a new one
-unfoldable pub step : ℕ → ℕ → ℤ
-step from to = brought cycle (pos to -ℤ pos from)
+-- the step from the last place to a new one, in a cycle of c seconds
+unfoldable pub step : ℕ → ℕ → ℕ → ℤ
+step c from to = brought c (pos to -ℤ pos from)
 
 -- the seconds that a clock may go back without being taken for one that was set back (document 02, Ticket 4)
 abbrev pub slack : ℕ
@@ -40,9 +49,9 @@ abbrev pub moved : Clock → ℕ → ℤ → Clock
 moved c to (pos n) = record { place = to; running = (c .running + n) % 2 ^ 32 }
 moved c to (negsuc n) = cond (leb (n + 1) slack) c (record { place = to; running = c .running })
 
--- the clock moved on to a new place
-unfoldable pub advance : Clock → ℕ → Clock
-advance c to = moved c to (step (c .place) to)
+-- the clock k moved on to a new place, in a cycle of c seconds
+unfoldable pub advance : ℕ → Clock → ℕ → Clock
+advance c k to = moved k to (step c (k .place) to)
 
 -- an entry's age: the running count less its stamp, modulo 4,294,967,296
 abbrev pub ageAt : ℕ → ℕ → ℕ

@@ -7,16 +7,16 @@ use lib.Dec.{eqb, leb}
 use Rattle.model.specs.Lists.{count, indexOf}
 use Rattle.model.specs.Clock.{Clock, advance, ageAt, runOut}
 use Rattle.model.specs.Query.{Question, LlqOption}
-use Rattle.model.specs.Table.{Entry, Slot, free, held, Table}
+use Rattle.model.specs.Table.{Entry, Slot, free, held, Table, cycleIn}
 use Rattle.model.specs.Rules.{Holding, holding, holdings, asks, numbered, full, grantedLease, freshNumber}
 
 -- CHANGES OF A TABLE
 
 abbrev pub withClock : Table → Clock → Table
-withClock t c = record { clock = c; roster = t .roster; slots = t .slots }
+withClock t c = record { layout = t .layout; clock = c; roster = t .roster; slots = t .slots }
 
 abbrev pub withSlots : Table → List Slot → Table
-withSlots t ss = record { clock = t .clock; roster = t .roster; slots = ss }
+withSlots t ss = record { layout = t .layout; clock = t .clock; roster = t .roster; slots = ss }
 
 -- slot i written
 abbrev pub withSlot : Table → ℕ → Slot → Table
@@ -39,7 +39,7 @@ freeRunOut t = withSlots t (map (freeIfRunOut (t .clock .running)) (t .slots))
 
 -- each answered call moves the clock, then frees run-out entries
 unfoldable pub movedOn : Table → ℕ → Table
-movedOn t place = freeRunOut (withClock t (advance (t .clock) place))
+movedOn t place = freeRunOut (withClock t (advance (cycleIn t) (t .clock) place))
 
 -- FINDING
 

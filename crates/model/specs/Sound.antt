@@ -6,9 +6,8 @@ use mathlib.Core.List.{List, [], _∷_}
 use lib.ListN.{length, getD}
 use lib.Dec.{eqb, leb, ltb}
 use Rattle.model.specs.Lists.{count, any, every, noTwo, same}
-use Rattle.model.specs.Clock.{Clock, cycle}
 use Rattle.model.specs.Names.{lowerName}
-use Rattle.model.specs.Table.{Line, Entry, Slot, free, held, Table, tableBytes, readTable}
+use Rattle.model.specs.Table.{Line, Entry, Slot, free, held, Table, placeBytes, cycleIn, tableBytes, readTable}
 use Rattle.model.specs.Rules.{Holding, holdings, heldBy, numbered, Counts, limitOf, reserve, shares}
 
 -- OF ONE LINE: 0 ≤ share ≤ limit, limit is 1 to 64
@@ -45,8 +44,8 @@ sameQuestion h k =
 
 -- THE RULES AS FACTS. "None fails" is a count of 0, "no two" is a count of at most 1.
 pub record Sound (t : Table) : Type 0 where
-  -- the last place is under 619,315,200
-  pub place : t .clock .place < cycle
+  -- the last place is under the cycle: 619,315,200, or with weeks of thirteen bits 4,954,521,600
+  pub place : t .clock .place < cycleIn t
   -- n slots, n from 1 to 64
   pub slotsMin : 1 ≤ length (t .slots)
   pub slotsMax : length (t .slots) ≤ 64
@@ -97,7 +96,7 @@ FitsSlot free = Unit {0}
 FitsSlot (held e) = FitsEntry e
 
 pub record Fits (t : Table) : Type 0 where
-  pub place : t .clock .place < 256 ^ 4
+  pub place : t .clock .place < 256 ^ placeBytes (t .layout)
   pub running : t .clock .running < 256 ^ 4
   pub lines : (i : ℕ) → i < length (t .roster) → FitsLine (getD (t .roster) i (record { address = 0; share = 0; limit = 0 }))
   pub slots : (i : ℕ) → i < length (t .slots) → FitsSlot (getD (t .slots) i free)
@@ -122,7 +121,7 @@ soundHoldings n ls hs =
 
 unfoldable pub soundTable : Table → Bool
 soundTable t =
-    ltb (t .clock .place) cycle && (leb 1 (length (t .slots)) && leb (length (t .slots)) 64) && leb (length (t .roster)) 16
+    ltb (t .clock .place) (cycleIn t) && (leb 1 (length (t .slots)) && leb (length (t .slots)) 64) && leb (length (t .roster)) 16
     && soundRoster (length (t .slots)) (t .roster) && soundHoldings (length (t .slots)) (t .roster) (holdings t)
 
 -- of bytes: they are those of the table that they are read as, so that kinds, order, lengths and zeros are right, and the rules hold of it

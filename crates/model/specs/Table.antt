@@ -1,12 +1,12 @@
 -- Document 01, "The table": what it holds, and its layout in bytes. Assumes nothing.
-use Prim.Native.Nat.{ℕ, zero, suc, _+_, _-_, _*_, _/_}
+use Prim.Native.Nat.{ℕ, zero, suc, _+_, _-_, _*_, _/_, _%_}
 use mathlib.Core.Bool.{Bool, true, false, cond, _&&_, _||_}
 use mathlib.Core.List.{List, [], _∷_, _++_}
 use lib.ListN.{length, getD, replicate}
 use lib.Dec.{eqb}
 use Rattle.model.specs.Lists.{upTo, flat}
 use Rattle.model.specs.Numbers.{bigEndian, part, encode}
-use Rattle.model.specs.Clock.{Clock}
+use Rattle.model.specs.Clock.{Clock, Weeks, tenBit, thirteenBit, cycleOf}
 
 -- a listed address with its share and its limit; an address is one number of 16 bytes
 pub record Line : Type 0 where
@@ -30,17 +30,37 @@ pub data Slot : Type 0 where
   free : Slot
   held : Entry → Slot
 
+-- how a table is laid out: by the weeks that its clock counts (document 02, Ticket 7)
+pub record Layout : Type 0 where
+  pub weeks : Weeks
+
 -- listed addresses alone: the unused roster lines hold nothing
 pub record Table : Type 0 where
+  pub layout : Layout
   pub clock : Clock
   pub roster : List Line
   pub slots : List Slot
 
 -- THE LAYOUT: each record a byte of kind and its body
 
--- 0x01, body 8: last place 4, running count 4
-unfoldable pub clockBytes : Clock → List ℕ
-clockBytes c = encode ((1, 1) ∷ (4, c .place) ∷ (4, c .running) ∷ [])
+-- the clock's kind, and the bytes of its place: 0x01 and 4 with weeks of ten bits, 0x09 and 8 with weeks of thirteen
+abbrev pub kindWith : Weeks → ℕ
+kindWith tenBit = 1
+kindWith thirteenBit = 9
+
+abbrev pub clockKind : Layout → ℕ
+clockKind l = kindWith (l .weeks)
+
+abbrev pub placeWith : Weeks → ℕ
+placeWith tenBit = 4
+placeWith thirteenBit = 8
+
+abbrev pub placeBytes : Layout → ℕ
+placeBytes l = placeWith (l .weeks)
+
+-- 0x01, body 8: last place 4, running count 4; or 0x09, body 12: last place 8, running count 4
+unfoldable pub clockBytes : Layout → Clock → List ℕ
+clockBytes l c = encode ((1, clockKind l) ∷ (placeBytes l, c .place) ∷ (4, c .running) ∷ [])
 
 -- 0x02, body 18: an unused roster line, all zero
 unfoldable pub unusedLine : List ℕ
@@ -71,26 +91,45 @@ rosterBytes ls = flat lineBytes ls ++ flat (λ (i : ℕ). unusedLine) (upTo (16 
 
 -- one clock record, 16 roster lines, the slots
 unfoldable pub tableBytes : Table → List ℕ
-tableBytes t = clockBytes (t .clock) ++ (rosterBytes (t .roster) ++ flat slotBytes (t .slots))
+tableBytes t = clockBytes (t .layout) (t .clock) ++ (rosterBytes (t .roster) ++ flat slotBytes (t .slots))
 
 -- THE PLACES that follow from it
 
--- where the slots start
-abbrev pub base : ℕ
-base = 313
+-- where the running count stands, behind the kind and the place, and where the lines start, behind the running count
+abbrev pub runningAt : Layout → ℕ
+runningAt l = 1 + placeBytes l
 
-abbrev pub lineAt : ℕ → ℕ
-lineAt i = 9 + 19 * i
+abbrev pub linesAt : Layout → ℕ
+linesAt l = runningAt l + 4
 
-abbrev pub slotAt : ℕ → ℕ
-slotAt i = base + 320 * i
+-- where the slots start: behind 16 lines of 19 bytes
+abbrev pub base : Layout → ℕ
+base l = linesAt l + 19 * 16
 
--- the length of a table of n slots, and the slots of a table of a length
-abbrev pub sizeOf : ℕ → ℕ
-sizeOf n = base + 320 * n
+abbrev pub lineAt : Layout → ℕ → ℕ
+lineAt l i = linesAt l + 19 * i
 
+abbrev pub slotAt : Layout → ℕ → ℕ
+slotAt l i = base l + 320 * i
+
+-- the length of a table of n slots: 313 + 320n, or 317 + 320n
+abbrev pub sizeOf : Layout → ℕ → ℕ
+sizeOf l n = base l + 320 * n
+
+-- the length alone says which layout a table has: the two differ in the rest modulo 320
+abbrev pub weeksFor : ℕ → Weeks
+weeksFor size = cond (eqb (size % 320) 317) thirteenBit tenBit
+
+unfoldable pub layoutOf : ℕ → Layout
+layoutOf size = record { weeks = weeksFor size }
+
+-- the slots of a table of a length
 abbrev pub slotsIn : ℕ → ℕ
-slotsIn size = (size - base) / 320
+slotsIn size = (size - base (layoutOf size)) / 320
+
+-- the cycle of a table's clock
+abbrev pub cycleIn : Table → ℕ
+cycleIn t = cycleOf (t .layout .weeks)
 
 -- THE TABLE READ BACK, from its places
 
@@ -115,14 +154,19 @@ unfoldable pub readSlot : List ℕ → ℕ → Slot
 readSlot b at = cond (eqb (getD b at 0) 5 || eqb (getD b at 0) 6) (held (readEntry b at)) free
 
 -- how many lines of kind 3 stand first, of m
-unfoldable pub listed : List ℕ → ℕ → ℕ
-listed b zero = 0
-listed b (suc m) = cond (eqb (listed b m) m && eqb (getD b (lineAt m) 0) 3) (suc m) (listed b m)
+unfoldable pub listed : Layout → List ℕ → ℕ → ℕ
+listed l b zero = 0
+listed l b (suc m) = cond (eqb (listed l b m) m && eqb (getD b (lineAt l m) 0) 3) (suc m) (listed l b m)
+
+-- by the layout l of n slots
+abbrev pub readBy : Layout → ℕ → List ℕ → Table
+readBy l n b =
+    record {
+      layout = l;
+      clock = record { place = bigEndian b 1 (placeBytes l); running = bigEndian b (runningAt l) 4 };
+      roster = upTo (listed l b 16) (λ i. readLine b (lineAt l i));
+      slots = upTo n (λ i. readSlot b (slotAt l i));
+    }
 
 unfoldable pub readTable : List ℕ → Table
-readTable b =
-    record {
-      clock = record { place = bigEndian b 1 4; running = bigEndian b 5 4 };
-      roster = upTo (listed b 16) (λ i. readLine b (lineAt i));
-      slots = upTo (slotsIn (length b)) (λ i. readSlot b (slotAt i));
-    }
+readTable b = readBy (layoutOf (length b)) (slotsIn (length b)) b

@@ -14,7 +14,7 @@ use Rattle.model.specs.Numbers.{Bytes, bigEndian, bytesOf, splice, encode}
 use Rattle.model.specs.Clock.{ageAt}
 use Rattle.model.specs.Query as query
 use Rattle.model.specs.Table as table
-use Rattle.model.specs.Table.{free, held, Table, base, lineAt, slotAt, slotsIn, sizeOf, readTable, readSlot, readEntry, slotBytes}
+use Rattle.model.specs.Table.{free, held, Layout, Table, runningAt, linesAt, base, slotAt, layoutOf, slotsIn, sizeOf, readTable, readSlot, readEntry, slotBytes}
 use Rattle.model.specs.Rules.{Holding, holdings, asks, full, grantedLease, freshNumber}
 use Rattle.model.specs.Sound.{FitsEntry}
 use Rattle.model.specs.Serve as serve
@@ -54,32 +54,35 @@ address-fits high low h l =
 pub served-by : {p q : serve.Served} {b : List ℕ} {x : ServedOption} → p ≡ q → ServedAs q b x → ServedAs p b x
 served-by {b = b} {x = x} e = subst (λ (z : serve.Served). ServedAs z b x) (sym e)
 
-module _ (b : List ℕ) (bytes : Bytes b) (formed : WellFormed b) (n : ℕ) (size : length b ≡ sizeOf n) where
+module _ (b : List ℕ) (bytes : Bytes b) (formed : WellFormed b) (n : ℕ) (size : length b ≡ sizeOf (layoutOf (length b)) n) where
+  abbrev lay : Layout
+  lay = layoutOf (length b)
+
   inside : {i : ℕ} → i < n → i < slotsIn (length b)
-  inside l = omega arith
+  inside h = omega arith
 
   -- its slots' part
   abbrev slots : List ℕ
-  slots = drop base b
+  slots = drop (base lay) b
 
   bytes-slots : Bytes slots
-  bytes-slots = bytes-drop base b bytes
+  bytes-slots = bytes-drop (base lay) b bytes
 
   -- WHAT WAS FOUND
-  module _ (p : Holding → Bool) {i : ℕ} (e : i ≡ indexOf (has (bigEndian b 5 4) p) (slotsTo slots n)) where
+  module _ (p : Holding → Bool) {i : ℕ} (e : i ≡ indexOf (has (bigEndian b (runningAt lay) 4) p) (slotsTo slots n)) where
     at-slot : (j : ℕ) → j < n → slotOf (readTable b) j ≡ readSlot slots (320 * j)
     at-slot j l = slot-read b j free (inside l)
 
     found-index : i ≡ findEntry p (readTable b)
     found-index = e ∙ sym (find-read b n size p)
 
-    used : (v : Bool) → inUse (getD slots (320 * i) 0) ≡ v → has (bigEndian b 5 4) p (readSlot slots (320 * i)) ≡ true → inUse (getD slots (320 * i) 0) ≡ true
+    used : (v : Bool) → inUse (getD slots (320 * i) 0) ≡ v → has (bigEndian b (runningAt lay) 4) p (readSlot slots (320 * i)) ≡ true → inUse (getD slots (320 * i) 0) ≡ true
     used true h t = h
-    used false h t = absurd (true≢false (sym t ∙ has-out (bigEndian b 5 4) p slots (320 * i) h))
+    used false h t = absurd (true≢false (sym t ∙ has-out (bigEndian b (runningAt lay) 4) p slots (320 * i) h))
 
     pub found-held : i < n → readSlot slots (320 * i) ≡ held (readEntry slots (320 * i))
     found-held l =
-        let q = has (bigEndian b 5 4) p in
+        let q = has (bigEndian b (runningAt lay) 4) p in
         let f : ℕ → table.Slot = λ j. readSlot slots (320 * j) in
         let k : indexOf q (slotsTo slots n) < length (slotsTo slots n) = rw (length-upTo n f, ← e) l in
         let t : q (getD (slotsTo slots n) i free) ≡ true = rw (← e) at (index-hit q (slotsTo slots n) free k) in
@@ -89,7 +92,7 @@ module _ (b : List ℕ) (bytes : Bytes b) (formed : WellFormed b) (n : ℕ) (siz
     found-slot l = ap (slotOf (readTable b)) (sym found-index) ∙ at-slot i l ∙ found-held l
 
     pub lost-slot : n ≤ i → slotOf (readTable b) (findEntry p (readTable b)) ≡ free
-    lost-slot l = ap (slotOf (readTable b)) (sym found-index) ∙ getD-past (readTable b .slots) i free (rw (slots-count b n size) l)
+    lost-slot l = ap (slotOf (readTable b)) (sym found-index) ∙ getD-past (readTable b .slots) i free (rw (slots-count b lay n size) l)
 
   -- GRANTED
 
@@ -104,9 +107,9 @@ module _ (b : List ℕ) (bytes : Bytes b) (formed : WellFormed b) (n : ℕ) (siz
         (is : i ≡ indexOf isFree (slotsTo slots n)) where
       number-is : number .0 ≡ new .number
       number-is =
-          ns ∙ sym (held-fresh (bigEndian b 5 4) slots n (n + 2) r)
+          ns ∙ sym (held-fresh (bigEndian b (runningAt lay) 4) slots n (n + 2) r)
           ∙ ap (λ (hs : List Holding). freshNumber (n + 2) (count hs) r) (sym (holdings-read b n size))
-          ∙ ap (λ (k : ℕ). freshNumber (k + 2) (count (holdings (readTable b))) r) (sym (slots-count b n size))
+          ∙ ap (λ (k : ℕ). freshNumber (k + 2) (count (holdings (readTable b))) r) (sym (slots-count b lay n size))
 
       free-is : i ≡ indexOf isFree (readTable b .slots)
       free-is = is ∙ ap (indexOf isFree) (sym (slots-read b n size))
@@ -117,13 +120,13 @@ module _ (b : List ℕ) (bytes : Bytes b) (formed : WellFormed b) (n : ℕ) (siz
       pub grant-none : n ≤ i → (x : ServedOption) → x ≡ servedWith o (out.Challenge number lease) → ServedAs grants b x
       grant-none l x e =
           let stays : set (readTable b .slots) (indexOf isFree (readTable b .slots)) (held new) ≡ readTable b .slots =
-          set-out (readTable b .slots) (indexOf isFree (readTable b .slots)) (held new) (rw (slots-count b n size, ← free-is) l) in
+          set-out (readTable b .slots) (indexOf isFree (readTable b .slots)) (held new) (rw (slots-count b lay n size, ← free-is) l) in
           record {
             table = subst (Written b) (sym (ap (serve.withSlots (readTable b)) stays)) (unwritten b formed);
             outcome = told x e;
           }
 
-      module _ (stamp len : ℕ) (ss : stamp ≡ bigEndian b 5 4) where
+      module _ (stamp len : ℕ) (ss : stamp ≡ bigEndian b (runningAt lay) 4) where
         abbrev made : Entry
         made =
             record {
@@ -142,11 +145,11 @@ module _ (b : List ℕ) (bytes : Bytes b) (formed : WellFormed b) (n : ℕ) (siz
         new-is : storedAs false made (q .name) ≡ new
         new-is = rw (number-is, ls, ss ∙ sym (running-read b))
 
-        pub grant-written : i < n → FitsEntry (storedAs false made (q .name)) → (y : List ℕ) → y ≡ splice (slotAt i) 320 (entryBytes made (q .name)) b
+        pub grant-written : i < n → FitsEntry (storedAs false made (q .name)) → (y : List ℕ) → y ≡ splice (slotAt lay i) 320 (entryBytes made (q .name)) b
             → (x : ServedOption) → x ≡ servedWith o (out.Challenge number lease) → ServedAs grants y x
         grant-written l f y w x e =
-            let v : y ≡ splice (slotAt i) 320 (slotBytes (held new)) b =
-            w ∙ ap (λ (z : List ℕ). splice (slotAt i) 320 z b) (pending-bytes made (q .name) refl ∙ ap (λ (z : table.Entry). slotBytes (held z)) new-is) in
+            let v : y ≡ splice (slotAt lay i) 320 (slotBytes (held new)) b =
+            w ∙ ap (λ (z : List ℕ). splice (slotAt lay i) 320 z b) (pending-bytes made (q .name) refl ∙ ap (λ (z : table.Entry). slotBytes (held z)) new-is) in
             record {
               table =
                   subst (λ (k : ℕ). Written y (withSlot (readTable b) k (held new))) free-is
@@ -160,10 +163,10 @@ module _ (b : List ℕ) (bytes : Bytes b) (formed : WellFormed b) (n : ℕ) (siz
       abbrev asked : Holding → Bool
       asked = asks (senderOf s .address) (s .port) q
 
-      asked-at : i ≡ indexOf (has (bigEndian b 5 4) asked) (slotsTo slots n)
-      asked-at = here ∙ sym (index-ageless (bigEndian b 5 4) asked (λ e. refl) (slotsTo slots n))
+      asked-at : i ≡ indexOf (has (bigEndian b (runningAt lay) 4) asked) (slotsTo slots n)
+      asked-at = here ∙ sym (index-ageless (bigEndian b (runningAt lay) 4) asked (λ e. refl) (slotsTo slots n))
 
-      pub setup-found : i < n → (e : Entry) → e ≡ entryAt slots (320 * i) → {running : ℕ} → running ≡ bigEndian b 5 4 → (left : ℕ)
+      pub setup-found : i < n → (e : Entry) → e ≡ entryAt slots (320 * i) → {running : ℕ} → running ≡ bigEndian b (runningAt lay) 4 → (left : ℕ)
           → left ≡ lifeLeft (e .lease) (ageAt running (e .stamp)) → (x : ServedOption) → x ≡ servedWith o (out.Challenge (e .number) left) → ServedAs (serveSetup (senderOf s) r q (optionOf o) (readTable b)) b x
       unfolding serveSetup onSetup entryAt readEntry
       setup-found l e h rs left k x g =
@@ -172,12 +175,12 @@ module _ (b : List ℕ) (bytes : Bytes b) (formed : WellFormed b) (n : ℕ) (siz
 
       -- full, as the code has counted
       abbrev fullNow : Bool
-      fullNow = full n (linesTo (drop (lineAt 0) b) (listedIn (drop (lineAt 0) b) 16)) (count (heldTo 0 slots n)) (senderOf s .address)
+      fullNow = full n (linesTo (drop (linesAt lay) b) (listedIn (drop (linesAt lay) b) 16)) (count (heldTo 0 slots n)) (senderOf s .address)
 
       full-is : full n (readTable b .roster) (count (holdings (readTable b))) (senderOf s .address) ≡ fullNow
       full-is =
           rw (roster-read b, holdings-read b n size)
-          (held-full (bigEndian b 5 4) slots n n (linesTo (drop (lineAt 0) b) (listedIn (drop (lineAt 0) b) 16)) (senderOf s .address))
+          (held-full (bigEndian b (runningAt lay) 4) slots n n (linesTo (drop (linesAt lay) b) (listedIn (drop (linesAt lay) b) 16)) (senderOf s .address))
 
       lost : n ≤ i → serveSetup (senderOf s) r q (optionOf o) (readTable b)
           ≡ cond fullNow (record { table = readTable b; outcome = serve.retryLater (optionOf o) }) grants
@@ -185,7 +188,7 @@ module _ (b : List ℕ) (bytes : Bytes b) (formed : WellFormed b) (n : ℕ) (siz
       lost l =
           ap (onSetup (senderOf s) r q (optionOf o) (readTable b)) (lost-slot asked asked-at l)
           ∙ ap (λ (k : ℕ). cond (full k (readTable b .roster) (count (holdings (readTable b))) (senderOf s .address))
-          (record { table = readTable b; outcome = serve.retryLater (optionOf o) }) grants) (slots-count b n size)
+          (record { table = readTable b; outcome = serve.retryLater (optionOf o) }) grants) (slots-count b lay n size)
           ∙ ap (λ (v : Bool). cond v (record { table = readTable b; outcome = serve.retryLater (optionOf o) }) grants) full-is
 
       pub setup-full : n ≤ i → fullNow ≡ true → (x : ServedOption) → x ≡ servedWith o out.Full → ServedAs (serveSetup (senderOf s) r q (optionOf o) (readTable b)) b x
@@ -196,8 +199,8 @@ module _ (b : List ℕ) (bytes : Bytes b) (formed : WellFormed b) (n : ℕ) (siz
 
     -- RESPONSE
 
-    module _ {i running : ℕ} (rs : running ≡ bigEndian b 5 4) (here : i ≡ indexOf (has running (answers (senderOf s) q (optionOf o))) (slotsTo slots n)) where
-      answered-at : i ≡ indexOf (has (bigEndian b 5 4) (answers (senderOf s) q (optionOf o))) (slotsTo slots n)
+    module _ {i running : ℕ} (rs : running ≡ bigEndian b (runningAt lay) 4) (here : i ≡ indexOf (has running (answers (senderOf s) q (optionOf o))) (slotsTo slots n)) where
+      answered-at : i ≡ indexOf (has (bigEndian b (runningAt lay) 4) (answers (senderOf s) q (optionOf o))) (slotsTo slots n)
       answered-at = rw rs at here
 
       pub response-none : n ≤ i → (x : ServedOption) → x ≡ servedWith o (out.NoSuchLlq (record { 0 = 0 }))
@@ -208,7 +211,7 @@ module _ (b : List ℕ) (bytes : Bytes b) (formed : WellFormed b) (n : ℕ) (siz
           (lost-slot (answers (senderOf s) q (optionOf o)) answered-at l)) (record { table = unwritten b formed; outcome = ap servedOutcome g })
 
       pub response-found : i < n → (e : Entry) → e ≡ entryAt slots (320 * i) → (left : ℕ) → left ≡ lifeLeft (e .lease) (ageAt running (e .stamp)) → (y : List ℕ)
-          → y ≡ splice (slotAt i) 1 (bytesOf 1 6) b → (x : ServedOption) → x ≡ servedWith o (out.Established (e .number) left)
+          → y ≡ splice (slotAt lay i) 1 (bytesOf 1 6) b → (x : ServedOption) → x ≡ servedWith o (out.Established (e .number) left)
           → ServedAs (serveResponse (senderOf s) q (optionOf o) (readTable b)) y x
       unfolding serveResponse onResponse entryAt readEntry
       response-found l e h left k y w x g =
@@ -229,8 +232,8 @@ module _ (b : List ℕ) (bytes : Bytes b) (formed : WellFormed b) (n : ℕ) (siz
       abbrev wanted : Holding → Bool
       wanted = refreshes (senderOf s) q (optionOf o)
 
-      wanted-at : i ≡ indexOf (has (bigEndian b 5 4) wanted) (slotsTo slots n)
-      wanted-at = here ∙ sym (index-ageless (bigEndian b 5 4) wanted (λ e. refl) (slotsTo slots n))
+      wanted-at : i ≡ indexOf (has (bigEndian b (runningAt lay) 4) wanted) (slotsTo slots n)
+      wanted-at = here ∙ sym (index-ageless (bigEndian b (runningAt lay) 4) wanted (λ e. refl) (slotsTo slots n))
 
       pub refresh-none : n ≤ i → (x : ServedOption) → x ≡ servedWith o (out.NoSuchLlq (o .number))
           → ServedAs (serveRefresh (senderOf s) q (optionOf o) (readTable b)) b x
@@ -263,7 +266,7 @@ module _ (b : List ℕ) (bytes : Bytes b) (formed : WellFormed b) (n : ℕ) (siz
         unfolding onRefresh
         on-renew z j = rw (ne-eqb (o .lease) 0 z)
 
-        pub refresh-end : o .lease ≡ 0 → (y : List ℕ) → y ≡ splice (slotAt i) 320 (slotBytes ended) b → (x : ServedOption)
+        pub refresh-end : o .lease ≡ 0 → (y : List ℕ) → y ≡ splice (slotAt lay i) 320 (slotBytes ended) b → (x : ServedOption)
             → x ≡ servedWith o (out.Ended (e .number)) → ServedAs (serveRefresh (senderOf s) q (optionOf o) (readTable b)) y x
         unfolding entryAt readEntry
         refresh-end z y w x g =
@@ -273,17 +276,17 @@ module _ (b : List ℕ) (bytes : Bytes b) (formed : WellFormed b) (n : ℕ) (siz
               outcome = ap servedOutcome g ∙ rw h;
             })
 
-        pub refresh-renew : o .lease ≢ 0 → (lease running : ℕ) → lease ≡ grantedLease (o .lease) → running ≡ bigEndian b 5 4 → (y : List ℕ)
-            → y ≡ splice (base + (320 * i + 27)) 8 (encode ((4, lease) ∷ (4, running) ∷ [])) b → (x : ServedOption)
+        pub refresh-renew : o .lease ≢ 0 → (lease running : ℕ) → lease ≡ grantedLease (o .lease) → running ≡ bigEndian b (runningAt lay) 4 → (y : List ℕ)
+            → y ≡ splice (base lay + (320 * i + 27)) 8 (encode ((4, lease) ∷ (4, running) ∷ [])) b → (x : ServedOption)
             → x ≡ servedWith o (out.Renewed (e .number) lease) → ServedAs (serveRefresh (senderOf s) q (optionOf o) (readTable b)) y x
         unfolding entryAt readEntry
         refresh-renew z lease running k r y w x g =
             let p = refreshes (senderOf s) q (optionOf o) in
             let rr : running ≡ readTable b .clock .running = r ∙ sym (running-read b) in
             let c = renew running (o .lease) d in
-            let at : base + (320 * i + 27) ≡ slotAt i + 27 = omega arith in
+            let at : base lay + (320 * i + 27) ≡ slotAt lay i + 27 = omega arith in
             let v = w ∙ ap (λ (k : ℕ). splice k 8 (encode ((4, lease) ∷ (4, running) ∷ [])) b) at ∙ renew-bytes b bytes formed i (inside l) d (found-held p wanted-at l) running (o .lease) lease k in
-            let fits : FitsEntry c = fits-renew running (o .lease) d (rw r (big-lt b 5 4 bytes)) (fits-entry slots bytes-slots (320 * i)) in
+            let fits : FitsEntry c = fits-renew running (o .lease) d (rw r (big-lt b (runningAt lay) 4 bytes)) (fits-entry slots bytes-slots (320 * i)) in
             let w′ : Written y (withSlot (readTable b) i (held (renew (readTable b .clock .running) (o .lease) d))) =
             subst (λ (j : ℕ). Written y (withSlot (readTable b) i (held (renew j (o .lease) d)))) rr (slot-written b bytes formed i (held c) (inside l) fits y v) in
             served-by (refreshed ∙ on-renew z _)

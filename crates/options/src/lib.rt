@@ -11,7 +11,7 @@ ghost use mathlib.Core.Path.{_≡_};
 ghost use Prim.Native.Nat.{_+_, _≤_};
 ghost use lib.ListN.{length};
 ghost use Rattle.model.specs.Clock.{ageAt};
-ghost use Rattle.model.specs.Table.{sizeOf, readTable};
+ghost use Rattle.model.specs.Table.{sizeOf, layoutOf, readTable};
 ghost use Rattle.model.specs.Rules.{grantedLease};
 ghost use Rattle.model.specs.Serve.{kindOfOption, lifeLeft, granted, serveSetup, serveResponse, serveRefresh, serveOption};
 ghost use Rattle.wire.specs.Records.{questionOf, optionOf};
@@ -120,7 +120,7 @@ fn grant(
     q: Question,
     o: LlqOption,
 ) -> ServedOption
-    requires { ⌜ WellFormed (now t) × LayoutFor l (length (now t)) × (length (now t) ≡ sizeOf (l .n)) × (q .start + q .len ≤ length (now d)) × (q .len ≤ 255) ⌝ }
+    requires { ⌜ WellFormed (now t) × LayoutFor l (length (now t)) × (length (now t) ≡ sizeOf (layoutOf (length (now t))) (l .n)) × (q .start + q .len ≤ length (now d)) × (q .len ≤ 255) ⌝ }
     ensures { λ x. ⌜ ServedAs (granted (senderOf s) r (questionOf (now (d .entry)) q) (optionOf o) (readTable (now (t .entry)))) (now (t .exit)) x ⌝ }
 {
     let n = l.n;
@@ -138,7 +138,7 @@ fn grant(
         port: s.port,
         number,
         lease: lease,
-        stamp: octets::get32(t, layout::RUNNING_AT),
+        stamp: record::running_count(t, l),
         qtype: q.qtype,
         qclass: q.qclass,
         len: q.len as u8,
@@ -156,7 +156,7 @@ fn serve_setup(
     q: Question,
     o: LlqOption,
 ) -> ServedOption
-    requires { ⌜ WellFormed (now t) × LayoutFor l (length (now t)) × (length (now t) ≡ sizeOf (l .n)) × (q .start + q .len ≤ length (now d)) × (q .len ≤ 255) ⌝ }
+    requires { ⌜ WellFormed (now t) × LayoutFor l (length (now t)) × (length (now t) ≡ sizeOf (layoutOf (length (now t))) (l .n)) × (q .start + q .len ≤ length (now d)) × (q .len ≤ 255) ⌝ }
     ensures { λ x. ⌜ ServedAs (serveSetup (senderOf s) r (questionOf (now (d .entry)) q) (optionOf o) (readTable (now (t .entry)))) (now (t .exit)) x ⌝ }
 {
     let n = l.n;
@@ -164,7 +164,7 @@ fn serve_setup(
     match entries::find_asked(&t[a..], n, s, d, q) {
         Found::Slot(_, e) => {
             let number = e.number;
-            let running = octets::get32(t, layout::RUNNING_AT);
+            let running = record::running_count(t, l);
             served(
                 o,
                 Outcome::Challenge(number, life_left(running, e.lease, e.stamp)),
@@ -188,12 +188,12 @@ fn serve_response(
     q: Question,
     o: LlqOption,
 ) -> ServedOption
-    requires { ⌜ WellFormed (now t) × LayoutFor l (length (now t)) × (length (now t) ≡ sizeOf (l .n)) × (q .start + q .len ≤ length (now d)) ⌝ }
+    requires { ⌜ WellFormed (now t) × LayoutFor l (length (now t)) × (length (now t) ≡ sizeOf (layoutOf (length (now t))) (l .n)) × (q .start + q .len ≤ length (now d)) ⌝ }
     ensures { λ x. ⌜ ServedAs (serveResponse (senderOf s) (questionOf (now (d .entry)) q) (optionOf o) (readTable (now (t .entry)))) (now (t .exit)) x ⌝ }
 {
     let asked = o.number;
     let a = l.slots_at;
-    let running = octets::get32(t, layout::RUNNING_AT);
+    let running = record::running_count(t, l);
     match entries::find_answered(&t[a..], l.n, running, s, d, q, asked, o.lease) {
         Found::Slot(i, e) => {
             let number = e.number;
@@ -213,7 +213,7 @@ fn serve_refresh(
     q: Question,
     o: LlqOption,
 ) -> ServedOption
-    requires { ⌜ WellFormed (now t) × LayoutFor l (length (now t)) × (length (now t) ≡ sizeOf (l .n)) × (q .start + q .len ≤ length (now d)) ⌝ }
+    requires { ⌜ WellFormed (now t) × LayoutFor l (length (now t)) × (length (now t) ≡ sizeOf (layoutOf (length (now t))) (l .n)) × (q .start + q .len ≤ length (now d)) ⌝ }
     ensures { λ x. ⌜ ServedAs (serveRefresh (senderOf s) (questionOf (now (d .entry)) q) (optionOf o) (readTable (now (t .entry)))) (now (t .exit)) x ⌝ }
 {
     let asked = o.number;
@@ -226,7 +226,7 @@ fn serve_refresh(
                 return served(o, Outcome::Ended(number));
             }
             let lease = granted_lease(o.lease);
-            let stamp = octets::get32(t, layout::RUNNING_AT);
+            let stamp = record::running_count(t, l);
             table::renew_at(&mut t[a..], i, lease, stamp);
             served(o, Outcome::Renewed(number, lease))
         }

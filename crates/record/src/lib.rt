@@ -5,14 +5,51 @@ ghost use Prim.Native.Nat.{_+_, _*_, _^_, _≤_};
 ghost use lib.ListN.{length, getD};
 ghost use lib.Dec.{eqb};
 ghost use Rattle.model.specs.Numbers.{bigEndian};
-ghost use Rattle.model.specs.Table.{readLine};
+ghost use Rattle.model.specs.Table.{readLine, placeWith, runningAt, layoutOf, readTable};
 ghost use Rattle.model.specs.Rules.{numbered, heldBy};
 ghost use Rattle.model.specs.Sound.{validLine, validEntry};
 ghost use Rattle.layout.specs.Shape.{inUse, slotShape, unusedShape};
 ghost use Rattle.layout.specs.Held.{holdingAt};
+ghost use Rattle.layout.specs.Weeks.{weeksOf};
+ghost use Rattle.layout.specs.Places.{LayoutFor};
+ghost use Rattle.clock.specs.Clock.{clockOf};
 ghost use Rattle.record.specs.Asked.{sameAsked};
 ghost use Rattle.record.specs.State.{stateOf, kindByte};
+use clock::Clock;
+use layout::Layout;
+use layout::Weeks;
 use wire::LlqNumber;
+
+// The last place, in as many bytes as its weeks have.
+fn place_at(t: &[u8], weeks: Weeks) -> u64
+    requires { ⌜ 9 ≤ length (now t) ⌝ }
+    ensures { λ r. ⌜ r ≡ bigEndian (now (t .entry)) 1 (placeWith (weeksOf weeks)) ⌝ }
+{
+    match weeks {
+        Weeks::Ten => octets::get32(t, layout::PLACE_AT) as u64,
+        Weeks::Thirteen => octets::get64(t, layout::PLACE_AT),
+    }
+}
+
+// The running count, before the lines.
+pub fn running_count(t: &[u8], l: Layout) -> u32
+    requires { ⌜ LayoutFor l (length (now t)) × (l .«slots_at» ≤ length (now t)) ⌝ }
+    ensures { λ r. ⌜ r ≡ bigEndian (now (t .entry)) (runningAt (layoutOf (length (now (t .entry))))) 4 ⌝ }
+{
+    octets::get32(t, l.lines_at - layout::RUNNING)
+}
+
+// The clock's record.
+pub fn clock_at(t: &[u8], l: Layout) -> Clock
+    requires { ⌜ LayoutFor l (length (now t)) × (l .«slots_at» ≤ length (now t)) ⌝ }
+    ensures { λ r. ⌜ clockOf r ≡ readTable (now (t .entry)) .clock ⌝ }
+{
+    let weeks = l.weeks;
+    Clock {
+        place: place_at(t, weeks),
+        running: running_count(t, l),
+    }
+}
 
 // "Each slot is free, pending or established."
 pub enum State {

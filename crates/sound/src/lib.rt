@@ -311,19 +311,20 @@ pub fn sound(t: &[u8], l: Layout) -> bool
     ensures { λ r. ⌜ r ≡ soundBytes (now (t .entry)) ⌝ }
 {
     let n = l.n;
-    if !layout::table_length(t.len(), n) {
+    if !layout::table_length(t.len(), l) {
         return false;
     }
-    if t[0] != layout::CLOCK_KIND {
+    let weeks = l.weeks;
+    if t[0] != layout::clock_kind(weeks) {
         return false;
     }
-    if octets::get32(t, layout::PLACE_AT) >= clock::CYCLE {
+    let c = record::clock_at(t, l);
+    if c.place >= clock::cycle(weeks) {
         return false;
     }
-    let running = octets::get32(t, layout::RUNNING_AT);
     let a = l.lines_at;
     let z = l.slots_at;
-    parts_sound(&t[a..], &t[z..], n, running)
+    parts_sound(&t[a..], &t[z..], n, c.running)
 }
 
 // The bytes are 0 to 16 records of kind 0x03 that meet the roster rules of n slots.

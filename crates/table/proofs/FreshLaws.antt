@@ -9,7 +9,8 @@ use mathlib.Core.List.{List, [], _∷_, _++_, append-assoc}
 use lib.ListN.{length, replicate, length-append, replicate-append-replicate}
 use Rattle.model.specs.Lists.{upTo, flat}
 use Rattle.model.specs.Numbers.{Bytes, bytesOf, part, splice, encode}
-use Rattle.model.specs.Table.{free, slotBytes, lineBytes, unusedLine, rosterBytes, tableBytes, readLine, base, lineAt, sizeOf}
+use Rattle.model.specs.Clock.{Weeks, tenBit, thirteenBit}
+use Rattle.model.specs.Table.{free, slotBytes, lineBytes, unusedLine, rosterBytes, Layout, kindWith, clockKind, placeBytes, tableBytes, readLine, linesAt, base, lineAt, sizeOf}
 use Rattle.model.specs.Calls.{goodRoster, rosterCount, rosterLines}
 use Rattle.model.proofs.NumberLaws.{splice-on, splice-all, length-encode, part-all}
 use Rattle.model.proofs.ListLaws.{length-upTo, flat-snoc, flat-next, length-rows, same-true}
@@ -76,37 +77,47 @@ module _ (r : List ℕ) (bytes : Bytes r) (n : ℕ) (good : goodRoster n r ≡ t
   roster-is = rw (roster-bytes, length-upTo (rosterCount r) (λ i. readLine r (19 * i)))
 
   -- five parts written one behind the other are the table's bytes
-  module _ (s : List ℕ) (place : ℕ) (size : length s ≡ sizeOf n) where
+  module _ (s : List ℕ) (l : Layout) (place : ℕ) (size : length s ≡ sizeOf l n) where
     abbrev fs : List (ℕ × ℕ)
-    fs = (4, place) ∷ (4, 0) ∷ []
+    fs = (placeBytes l, place) ∷ (4, 0) ∷ []
 
-    parts : ((((1 ∷ []) ++ encode fs) ++ r) ++ unusedLines (16 - rosterCount r)) ++ freeSlots n ≡ tableBytes (fresh place r n)
+    abbrev w : ℕ
+    w = placeBytes l + 4
+
+    parts : ((((clockKind l ∷ []) ++ encode fs) ++ r) ++ unusedLines (16 - rosterCount r)) ++ freeSlots n ≡ tableBytes (fresh l place r n)
     unfolding tableBytes
-    parts =
-        rw (clock-starts (record { place = place; running = 0 }), roster-is, slots-are n) (simp append-assoc)
+    parts = rw (clock-starts l (record { place = place; running = 0 }), roster-is, slots-are n) (simp append-assoc)
 
-    fresh-bytes : splice base (320 * n) (freeSlots n)
-        (splice (lineAt (rosterCount r)) (19 * (16 - rosterCount r)) (unusedLines (16 - rosterCount r))
-        (splice (lineAt 0) (length r) r (splice 1 8 (encode fs) (splice 0 1 (bytesOf 1 1) s)))) ≡ tableBytes (fresh place r n)
-    unfolding bytesOf
+    fresh-bytes : splice (base l) (320 * n) (freeSlots n)
+        (splice (lineAt l (rosterCount r)) (19 * (16 - rosterCount r)) (unusedLines (16 - rosterCount r))
+        (splice (linesAt l) (length r) r (splice 1 w (encode fs) (splice 0 1 (clockKind l ∷ []) s)))) ≡ tableBytes (fresh l place r n)
     fresh-bytes =
         let m = rosterCount r in
         let u = unusedLines (16 - m) in
-        let one = splice-on 1 8 (1 ∷ []) (encode fs) s refl (omega (arith, size)) in
-        let ch : length ((1 ∷ []) ++ encode fs) ≡ lineAt 0 = ap suc (length-encode fs) in
-        let two = splice-on (lineAt 0) (length r) ((1 ∷ []) ++ encode fs) r s ch (omega (arith, size, given .whole, given .few)) in
-        let cr : length (((1 ∷ []) ++ encode fs) ++ r) ≡ lineAt 0 + length r = length-append ((1 ∷ []) ++ encode fs) r ∙ ap (λ (k : ℕ). k + length r) ch in
-        let l : lineAt m ≡ lineAt 0 + length r = omega (arith, given .whole) in
-        let three = splice-on (lineAt 0 + length r) (19 * (16 - m)) (((1 ∷ []) ++ encode fs) ++ r) u s cr (omega (arith, size, given .whole, given .few)) in
-        let w : lineAt 0 + length r + 19 * (16 - m) ≡ base = omega (arith, given .whole, given .few) in
-        let cu : length ((((1 ∷ []) ++ encode fs) ++ r) ++ u) ≡ base =
-        length-append (((1 ∷ []) ++ encode fs) ++ r) u ∙ (rw (cr, length-lines (16 - m))) ∙ w in
-        let four = splice-on base (320 * n) ((((1 ∷ []) ++ encode fs) ++ r) ++ u) (freeSlots n) s cu (omega (arith, size)) in
-        rw (one, two, l, three, w, four) (splice-all (sizeOf n) _ s size ∙ parts)
+        let h = (clockKind l ∷ []) ++ encode fs in
+        let lw : length (encode fs) ≡ w = length-encode fs in
+        let one = splice-on 1 w (clockKind l ∷ []) (encode fs) s refl (omega (arith, size)) in
+        let ch : length h ≡ linesAt l = ap suc lw ∙ (omega arith) in
+        let g : 1 + w ≡ linesAt l = omega arith in
+        let two = splice-on (linesAt l) (length r) h r s ch (omega (arith, size, given .whole, given .few)) in
+        let cr : length (h ++ r) ≡ linesAt l + length r = length-append h r ∙ ap (λ (k : ℕ). k + length r) ch in
+        let a : lineAt l m ≡ linesAt l + length r = omega (arith, given .whole) in
+        let three = splice-on (linesAt l + length r) (19 * (16 - m)) (h ++ r) u s cr (omega (arith, size, given .whole, given .few)) in
+        let e : linesAt l + length r + 19 * (16 - m) ≡ base l = omega (arith, given .whole, given .few) in
+        let cu : length ((h ++ r) ++ u) ≡ base l = length-append (h ++ r) u ∙ (rw (cr, length-lines (16 - m))) ∙ e in
+        let four = splice-on (base l) (320 * n) ((h ++ r) ++ u) (freeSlots n) s cu (omega (arith, size)) in
+        rw (one, g, two, a, three, e, four) (splice-all (sizeOf l n) _ s size ∙ parts)
+
+    kind-one : (v : Weeks) → bytesOf 1 (kindWith v) ≡ kindWith v ∷ []
+    unfolding bytesOf
+    kind-one tenBit = refl
+    kind-one thirteenBit = refl
 
     -- step by step, as the code writes them
-    pub fresh-written : {at : ℕ} {s₁ s₂ s₃ s₄ s₅ : List ℕ} → at ≡ lineAt 0 → s₁ ≡ splice 0 1 (bytesOf 1 1) s → s₂ ≡ splice 1 8 (encode fs) s₁
+    pub fresh-written : {k at : ℕ} {s₁ s₂ s₃ s₄ s₅ : List ℕ} → k ≡ clockKind l → at ≡ linesAt l → s₁ ≡ splice 0 1 (bytesOf 1 k) s → s₂ ≡ splice 1 w (encode fs) s₁
         → s₃ ≡ splice at (length r) (part 0 (length r) r) s₂
-        → s₄ ≡ splice (lineAt 0 + 19 * rosterCount r) (19 * (16 - rosterCount r)) (unusedLines (16 - rosterCount r)) s₃
-        → s₅ ≡ splice (base + 0) (320 * n) (freeSlots n) s₄ → s₅ ≡ tableBytes (fresh place r n)
-    fresh-written p e₁ e₂ e₃ e₄ e₅ = e₅ ∙ (rw (e₄, e₃, p, part-all r, e₂, e₁) fresh-bytes)
+        → s₄ ≡ splice (linesAt l + 19 * rosterCount r) (19 * (16 - rosterCount r)) (unusedLines (16 - rosterCount r)) s₃
+        → s₅ ≡ splice (base l + 0) (320 * n) (freeSlots n) s₄ → s₅ ≡ tableBytes (fresh l place r n)
+    fresh-written q p e₁ e₂ e₃ e₄ e₅ =
+        let z : base l + 0 ≡ base l = omega arith in
+        e₅ ∙ (rw (z, e₄, e₃, p, part-all r, e₂, e₁, q, kind-one (l .weeks)) fresh-bytes)

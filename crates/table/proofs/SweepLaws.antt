@@ -11,13 +11,13 @@ use lib.Seq.{take-suc, set-getD, take-length}
 use Rattle.model.specs.Lists.{bit, count, flat}
 use Rattle.model.specs.Numbers.{Bytes, bigEndian, splice, encode}
 use Rattle.model.specs.Clock.{Clock, advance}
-use Rattle.model.specs.Table.{Slot, free, Table, slotBytes, tableBytes, readTable, readSlot, base, sizeOf}
+use Rattle.model.specs.Table.{Slot, free, Table, slotBytes, placeBytes, tableBytes, readTable, readSlot, runningAt, base, sizeOf, layoutOf, cycleIn}
 use Rattle.model.specs.Sound.{FitsSlot}
 use Rattle.model.specs.Serve.{withClock, withSlots, slotRunOut, freeIfRunOut, freeRunOut, movedOn, ended}
 use Rattle.model.specs.Calls.{freedBy}
 use Rattle.model.proofs.ListLaws.{count-append, getD-any, length-upTo, getD-upTo}
 use Rattle.model.proofs.SlotLaws.{length-slot, fits-short, slot-back}
-use Rattle.model.proofs.TableLaws.{flat-cut, flat-set, length-front}
+use Rattle.model.proofs.TableLaws.{flat-cut, flat-set, length-front, clockFields}
 use Rattle.model.proofs.Meaning.{fits-read, fits-slot, lines-read}
 use Rattle.model.proofs.StepLaws.{freed-fits, fits-free}
 use Rattle.layout.specs.Shape.{slotsTo}
@@ -169,35 +169,31 @@ unfolding firstChanged
 sweep-start r b n h = sym h
 
 -- a slots' part that was lent to the sweep
-pub lent-swept : (x : List ℕ) (n r : ℕ) {a : ℕ} {ws : List ℕ} {k : ℕ} → a ≡ base
+pub lent-swept : (x : List ℕ) (n r : ℕ) {a : ℕ} {ws : List ℕ} {k h : ℕ} → a ≡ h
     → (ws ≡ flat slotBytes (map (freeIfRunOut r) (slotsTo (take (length x - a) (drop a x)) n))) × (k ≡ count (slotsTo (take (length x - a) (drop a x)) n) (slotRunOut r))
-    → (take a x ++ (ws ++ drop (length x - a) (drop a x)) ≡ take base x ++ flat slotBytes (map (freeIfRunOut r) (slotsTo (drop base x) n)))
-    × (k ≡ count (slotsTo (drop base x) n) (slotRunOut r))
-lent-swept x n r e h =
+    → (take a x ++ (ws ++ drop (length x - a) (drop a x)) ≡ take h x ++ flat slotBytes (map (freeIfRunOut r) (slotsTo (drop h x) n)))
+    × (k ≡ count (slotsTo (drop h x) n) (slotRunOut r))
+lent-swept x n r e f =
     let s = tail-is x e in (
-      tail-back x e (h .0 ∙ ap (λ (y : List ℕ). flat slotBytes (map (freeIfRunOut r) (slotsTo y n))) s),
-      h .1 ∙ ap (λ (y : List ℕ). count (slotsTo y n) (slotRunOut r)) s,
+      tail-back x e (f .0 ∙ ap (λ (y : List ℕ). flat slotBytes (map (freeIfRunOut r) (slotsTo y n))) s),
+      f .1 ∙ ap (λ (y : List ℕ). count (slotsTo y n) (slotRunOut r)) s,
     )
 
 -- the same of a table whose slots' part was swept
-pub table-swept : (b : List ℕ) → Bytes b → WellFormed b → (n r : ℕ) → length b ≡ sizeOf n → r ≡ bigEndian b 5 4 → (y : List ℕ) (k : ℕ)
-    → (y ≡ take base b ++ flat slotBytes (map (freeIfRunOut r) (slotsTo (drop base b) n))) × (k ≡ count (slotsTo (drop base b) n) (slotRunOut r))
+pub table-swept : (b : List ℕ) → Bytes b → WellFormed b → (n r : ℕ) → length b ≡ sizeOf (layoutOf (length b)) n → r ≡ bigEndian b (runningAt (layoutOf (length b))) 4 → (y : List ℕ) (k : ℕ)
+    → (y ≡ take (base (layoutOf (length b))) b ++ flat slotBytes (map (freeIfRunOut r) (slotsTo (drop (base (layoutOf (length b))) b) n))) × (k ≡ count (slotsTo (drop (base (layoutOf (length b))) b) n) (slotRunOut r))
     → Written y (freeRunOut (readTable b)) × (k ≡ count (readTable b .slots) (slotRunOut r))
 table-swept b bytes formed n r size e y k h =
     let s = slots-read b n size in
     let d : readTable b .clock .running ≡ r = running-read b ∙ sym e in
-    let t : freeRunOut (readTable b) ≡ withSlots (readTable b) (map (freeIfRunOut r) (slotsTo (drop base b) n)) =
+    let t : freeRunOut (readTable b) ≡ withSlots (readTable b) (map (freeIfRunOut r) (slotsTo (drop (base (layoutOf (length b))) b) n)) =
     ap (λ (z : ℕ). withSlots (readTable b) (map (freeIfRunOut z) (readTable b .slots))) d ∙ ap (λ (z : List Slot). withSlots (readTable b) (map (freeIfRunOut r) z)) s in (
       written y (freeRunOut (readTable b)) (lines-read b) (fits-free (readTable b) (fits-read b bytes))
-          (h .0 ∙ with-slots b bytes formed (map (freeIfRunOut r) (slotsTo (drop base b) n)) ∙ ap tableBytes (sym t)),
+          (h .0 ∙ with-slots b bytes formed (map (freeIfRunOut r) (slotsTo (drop (base (layoutOf (length b))) b) n)) ∙ ap tableBytes (sym t)),
       h .1 ∙ ap (λ (z : List Slot). count z (slotRunOut r)) (sym s),
     )
 
 -- THE CLOCK MOVED FIRST
-
-pub clock-is : (b : List ℕ) {p r : ℕ} → p ≡ bigEndian b 1 4 → r ≡ bigEndian b 5 4 → _≡_ {A = Clock} (record { place = p; running = r }) (readTable b .clock)
-unfolding readTable
-clock-is b e f = rw (e, f)
 
 none-out : (r : ℕ) (s : List Slot) → count s (slotRunOut r) ≡ 0 → map (freeIfRunOut r) s ≡ s
 none-out r [] e = refl
@@ -208,29 +204,29 @@ none-out r (x ∷ s) e = go (slotRunOut r x) e (none-out r s)
     go true e f = absurd (omega arith)
     go false e f = ap (λ (l : List Slot). x ∷ l) (f (omega arith))
 
-module _ (b : List ℕ) (bytes : Bytes b) (formed : WellFormed b) (c : Clock) (p : c .place < 256 ^ 4) (q : c .running < 256 ^ 4) (x : List ℕ)
-    (e : x ≡ splice 1 8 (encode ((4, c .place) ∷ (4, c .running) ∷ [])) b) where
+module _ (b : List ℕ) (bytes : Bytes b) (formed : WellFormed b) (c : Clock) (p : c .place < 256 ^ placeBytes (layoutOf (length b))) (q : c .running < 256 ^ 4) (x : List ℕ)
+    (e : x ≡ splice 1 (placeBytes (layoutOf (length b)) + 4) (encode (clockFields (layoutOf (length b)) c)) b) where
   set-clock : Written x (withClock (readTable b) c)
   set-clock = clock-written b bytes formed c p q x e
 
   pub clock-formed : WellFormed x
   clock-formed = formed-written set-clock
 
-  pub clock-running : c .running ≡ bigEndian x 5 4
+  pub clock-running : c .running ≡ bigEndian x (runningAt (layoutOf (length x))) 4
   clock-running = sym (ap (λ (t : Table). t .clock .running) (set-clock .read)) ∙ running-read x
 
-  pub moved : (place : ℕ) → c ≡ advance (readTable b .clock) place → (y : List ℕ) (k : ℕ)
+  pub moved : (place : ℕ) → c ≡ advance (cycleIn (readTable b)) (readTable b .clock) place → (y : List ℕ) (k : ℕ)
       → Written y (freeRunOut (readTable x)) × (k ≡ count (readTable x .slots) (slotRunOut (c .running)))
       → Written y (movedOn (readTable b) place) × (k ≡ freedBy (readTable b) place)
   unfolding movedOn freedBy
   moved place g y k h =
-      let t : readTable x ≡ withClock (readTable b) (advance (readTable b .clock) place) = set-clock .read ∙ ap (withClock (readTable b)) g in (
+      let t : readTable x ≡ withClock (readTable b) (advance (cycleIn (readTable b)) (readTable b .clock) place) = set-clock .read ∙ ap (withClock (readTable b)) g in (
         subst (λ (z : Table). Written y (freeRunOut z)) t (h .0),
         h .1 ∙ ap (λ (z : Table). count (z .slots) (slotRunOut (c .running))) t ∙ ap (λ (z : Clock). count (readTable b .slots) (slotRunOut (z .running))) g,
       )
 
   -- where none has run out, none ends
-  pub stays : (place : ℕ) → c ≡ advance (readTable b .clock) place → count (readTable b .slots) (slotRunOut (c .running)) ≡ 0
+  pub stays : (place : ℕ) → c ≡ advance (cycleIn (readTable b)) (readTable b .clock) place → count (readTable b .slots) (slotRunOut (c .running)) ≡ 0
       → Written x (movedOn (readTable b) place) × (0 ≡ freedBy (readTable b) place)
   stays place g z =
       let t = withClock (readTable b) c in

@@ -8,15 +8,15 @@ use lib.Seq.{length-take-le, take-at, drop-at}
 use Rattle.model.specs.Lists.{flat}
 use Rattle.model.specs.Numbers.{Bytes, bytesOf, part, splice, encode}
 use Rattle.model.specs.Clock.{Clock}
-use Rattle.model.specs.Table.{Entry, Slot, free, held, Table, clockBytes, rosterBytes, slotBytes, tableBytes, readTable, readSlot, base, slotAt, sizeOf, slotsIn, unusedLine, kindOf}
+use Rattle.model.specs.Table.{Entry, Slot, free, held, Layout, Table, placeBytes, clockBytes, rosterBytes, slotBytes, tableBytes, readTable, readSlot, base, slotAt, sizeOf, layoutOf, slotsIn, unusedLine, kindOf}
 use Rattle.model.specs.Rules.{grantedLease}
 use Rattle.model.specs.Sound.{FitsSlot, Fits}
 use Rattle.model.specs.Serve.{withClock, withSlots, withSlot, establish, renew}
 use Rattle.model.proofs.NumberLaws.{splice-splice, splice-mid, splice-part, length-encode, encode-first}
 use Rattle.model.proofs.SlotLaws.{kind-lt}
-use Rattle.model.proofs.TableLaws.{with-slot, with-clock, length-clock, length-roster}
+use Rattle.model.proofs.TableLaws.{with-slot, clockFields, with-clock, length-clock, length-roster}
 use Rattle.model.proofs.RoundTrip.{table-back}
-use Rattle.model.proofs.Meaning.{fits-read, lines-read, slots-read}
+use Rattle.model.proofs.Meaning.{fits-read, lines-read, slots-read, layout-read}
 use Rattle.model.proofs.StepLaws.{fits-with-slot, fits-with-clock}
 use Rattle.layout.proofs.ReadLaws.{formed-size, formed-slot}
 use Rattle.layout.proofs.PartLaws.{part-drop, tail-is, slots-read as slots-part}
@@ -34,48 +34,62 @@ pub formed-written : {b : List ℕ} {t : Table} → Written b t → WellFormed b
 formed-written w = ap tableBytes (w .read) ∙ sym (w .bytes)
 
 -- the size is kept
-pub formed-n : (b : List ℕ) → Bytes b → WellFormed b → (n : ℕ) → n ≡ slotsIn (length b) → length b ≡ sizeOf n
+pub formed-n : (b : List ℕ) → Bytes b → WellFormed b → (n : ℕ) → n ≡ slotsIn (length b) → length b ≡ sizeOf (layoutOf (length b)) n
 formed-n b bytes formed n e = rw e (formed-size b bytes formed)
 
 module _ (b : List ℕ) (bytes : Bytes b) (formed : WellFormed b) where
+  abbrev l : Layout
+  l = layoutOf (length b)
+
   -- slot i written
-  pub slot-written : (i : ℕ) (s : Slot) → i < slotsIn (length b) → FitsSlot s → (x : List ℕ) → x ≡ splice (slotAt i) 320 (slotBytes s) b
+  pub slot-written : (i : ℕ) (s : Slot) → i < slotsIn (length b) → FitsSlot s → (x : List ℕ) → x ≡ splice (slotAt l i) 320 (slotBytes s) b
       → Written x (withSlot (readTable b) i s)
-  slot-written i s l f x e =
+  slot-written i s h f x e =
       let r = fits-read b bytes in
       written x (withSlot (readTable b) i s) (lines-read b) (fits-with-slot (readTable b) i s r f)
-      (e ∙ ap (splice (slotAt i) 320 (slotBytes s)) (sym formed) ∙ with-slot (readTable b) (lines-read b) r i s (rw (slots-read b) l))
+      (e
+      ∙ ap (λ (k : Layout). splice (slotAt k i) 320 (slotBytes s) b) (sym (layout-read b))
+      ∙ ap (splice (slotAt (readTable b .layout) i) 320 (slotBytes s)) (sym formed)
+      ∙ with-slot (readTable b) (lines-read b) r i s (rw (slots-read b) h))
 
   -- the clock written
-  pub clock-written : (c : Clock) → c .place < 256 ^ 4 → c .running < 256 ^ 4 → (x : List ℕ) → x ≡ splice 1 8 (encode ((4, c .place) ∷ (4, c .running) ∷ [])) b
-      → Written x (withClock (readTable b) c)
+  pub clock-written : (c : Clock) → c .place < 256 ^ placeBytes l → c .running < 256 ^ 4 → (x : List ℕ)
+      → x ≡ splice 1 (placeBytes l + 4) (encode (clockFields l c)) b → Written x (withClock (readTable b) c)
   clock-written c p r x e =
-      written x (withClock (readTable b) c) (lines-read b) (fits-with-clock (readTable b) c (fits-read b bytes) p r)
-      (e ∙ ap (splice 1 8 (encode ((4, c .place) ∷ (4, c .running) ∷ []))) (sym formed) ∙ with-clock (readTable b) c)
+      let k = readTable b .layout in
+      written x (withClock (readTable b) c) (lines-read b) (fits-with-clock (readTable b) c (fits-read b bytes) (rw (layout-read b) p) r)
+      (e
+      ∙ ap (λ (j : Layout). splice 1 (placeBytes j + 4) (encode (clockFields j c)) b) (sym (layout-read b))
+      ∙ ap (splice 1 (placeBytes k + 4) (encode (clockFields k c))) (sym formed)
+      ∙ with-clock (readTable b) c)
 
   -- ITS SLOTS' PART
   abbrev head : List ℕ
-  head = clockBytes (readTable b .clock) ++ rosterBytes (readTable b .roster)
+  head = clockBytes (readTable b .layout) (readTable b .clock) ++ rosterBytes (readTable b .roster)
 
-  head-length : length head ≡ base
-  head-length = rw (length-append, length-clock (readTable b .clock), length-roster (readTable b .roster) (lines-read b))
+  head-length : length head ≡ base l
+  head-length =
+      rw (length-append, length-clock (readTable b .layout) (readTable b .clock), length-roster (readTable b .roster) (lines-read b), layout-read b)
 
   split : b ≡ head ++ flat slotBytes (readTable b .slots)
   unfolding tableBytes
-  split = sym formed ∙ sym (append-assoc (clockBytes (readTable b .clock)) (rosterBytes (readTable b .roster)) (flat slotBytes (readTable b .slots)))
+  split =
+      sym formed
+      ∙ sym (append-assoc (clockBytes (readTable b .layout) (readTable b .clock)) (rosterBytes (readTable b .roster)) (flat slotBytes (readTable b .slots)))
 
-  pub formed-slots : (n : ℕ) → length b ≡ sizeOf n → FormedSlots (drop base b) n
+  pub formed-slots : (n : ℕ) → length b ≡ sizeOf l n → FormedSlots (drop (base l) b) n
   formed-slots n size =
-      ap (flat slotBytes) (sym (slots-part b n size)) ∙ sym (ap (drop base) split ∙ drop-at head (flat slotBytes (readTable b .slots)) base head-length)
+      ap (flat slotBytes) (sym (slots-part b n size)) ∙ sym (ap (drop (base l)) split ∙ drop-at head (flat slotBytes (readTable b .slots)) (base l) head-length)
 
-  pub with-slots : (s : List Slot) → take base b ++ flat slotBytes s ≡ tableBytes (withSlots (readTable b) s)
+  pub with-slots : (s : List Slot) → take (base l) b ++ flat slotBytes s ≡ tableBytes (withSlots (readTable b) s)
   unfolding tableBytes
   with-slots s =
-      let t : take base b ≡ head = ap (take base) split ∙ take-at head (flat slotBytes (readTable b .slots)) base head-length in
-      rw t (append-assoc (clockBytes (readTable b .clock)) (rosterBytes (readTable b .roster)) (flat slotBytes s))
+      let t : take (base l) b ≡ head = ap (take (base l)) split ∙ take-at head (flat slotBytes (readTable b .slots)) (base l) head-length in
+      rw t (append-assoc (clockBytes (readTable b .layout) (readTable b .clock)) (rosterBytes (readTable b .roster)) (flat slotBytes s))
 
 -- it is lent
-pub lent-formed : {x : List ℕ} → WellFormed x → Bytes x → (n : ℕ) → length x ≡ sizeOf n → {a : ℕ} → a ≡ base → FormedSlots (take (length x - a) (drop a x)) n
+pub lent-formed : {x : List ℕ} → WellFormed x → Bytes x → (n : ℕ) → length x ≡ sizeOf (layoutOf (length x)) n → {a : ℕ} → a ≡ base (layoutOf (length x))
+    → FormedSlots (take (length x - a) (drop a x)) n
 lent-formed {x = x} formed bytes n size e = subst (λ (y : List ℕ). FormedSlots y n) (sym (tail-is x e)) (formed-slots x bytes formed n size)
 
 -- SOME FIELDS OF A ROW WRITTEN
@@ -124,25 +138,28 @@ by-kind : (e : Entry) → slotBytes (held e) ≡ (kindOf (e .established) ∷ []
 unfolding slotBytes rest
 by-kind e = ap (λ (s : List ℕ). s ++ (e .name ++ replicate (280 - length (e .name)) 0)) (encode-first (kindOf (e .established)) (rest e) (kind-lt (e .established)))
 
-module _ (b : List ℕ) (bytes : Bytes b) (formed : WellFormed b) (i : ℕ) (l : i < slotsIn (length b)) (e : Entry) (here : readSlot (drop base b) (320 * i) ≡ held e) where
-  row : part (slotAt i) 320 b ≡ slotBytes (held e)
-  row = sym (part-drop base b (320 * i) 320) ∙ sym (formed-slot b bytes formed i l) ∙ ap slotBytes here
+module _ (b : List ℕ) (bytes : Bytes b) (formed : WellFormed b) (i : ℕ) (h : i < slotsIn (length b)) (e : Entry) (here : readSlot (drop (base (layoutOf (length b))) b) (320 * i) ≡ held e) where
+  abbrev at : ℕ
+  at = slotAt (layoutOf (length b)) i
 
-  pub establish-bytes : splice (slotAt i) 1 (bytesOf 1 6) b ≡ splice (slotAt i) 320 (slotBytes (held (establish e))) b
+  row : part (at) 320 b ≡ slotBytes (held e)
+  row = sym (part-drop (base (layoutOf (length b))) b (320 * i) 320) ∙ sym (formed-slot b bytes formed i h) ∙ ap slotBytes here
+
+  pub establish-bytes : splice (at) 1 (bytesOf 1 6) b ≡ splice (at) 320 (slotBytes (held (establish e))) b
   unfolding rest bytesOf
   establish-bytes =
-      let z : slotAt i ≡ slotAt i + 0 = omega arith in
+      let z : at ≡ at + 0 = omega arith in
       ap (λ (k : ℕ). splice k 1 (6 ∷ []) b) z
-      ∙ row-edit b [] (kindOf (e .established) ∷ []) (encode (rest e) ++ (e .name ++ replicate (280 - length (e .name)) 0)) (6 ∷ []) (slotAt i) 0 1 320
+      ∙ row-edit b [] (kindOf (e .established) ∷ []) (encode (rest e) ++ (e .name ++ replicate (280 - length (e .name)) 0)) (6 ∷ []) (at) 0 1 320
       (omega (arith, formed-size b bytes formed)) (row ∙ by-kind e) refl refl
-      ∙ ap (λ (s : List ℕ). splice (slotAt i) 320 s b) (sym (by-kind (establish e)))
+      ∙ ap (λ (s : List ℕ). splice (at) 320 s b) (sym (by-kind (establish e)))
 
   pub renew-bytes : (running asked lease : ℕ) → lease ≡ grantedLease asked
-      → splice (slotAt i + 27) 8 (encode ((4, lease) ∷ (4, running) ∷ [])) b ≡ splice (slotAt i) 320 (slotBytes (held (renew running asked e))) b
+      → splice (at + 27) 8 (encode ((4, lease) ∷ (4, running) ∷ [])) b ≡ splice (at) 320 (slotBytes (held (renew running asked e))) b
   renew-bytes running asked lease g =
-      row-edit b (encode (before e)) (encode (times e)) (behind e) (encode ((4, lease) ∷ (4, running) ∷ [])) (slotAt i) 27 8 320
+      row-edit b (encode (before e)) (encode (times e)) (behind e) (encode ((4, lease) ∷ (4, running) ∷ [])) (at) 27 8 320
       (omega (arith, formed-size b bytes formed)) (row ∙ in-parts e) (length-encode (before e)) (length-encode (times e))
-      ∙ ap (λ (s : List ℕ). splice (slotAt i) 320 s b)
+      ∙ ap (λ (s : List ℕ). splice (at) 320 s b)
       (ap (λ (k : ℕ). encode (before e) ++ (encode ((4, k) ∷ (4, running) ∷ []) ++ behind e)) g ∙ sym (in-parts (renew running asked e)))
 
 pub free-bytes : (s : List ℕ) (a : ℕ) → a + 320 ≤ length s → splice (a + 1) 319 (replicate 319 0) (splice a 1 (bytesOf 1 4) s) ≡ splice a 320 (slotBytes free) s

@@ -2,6 +2,7 @@
 use clock::Clock;
 use entries::Entry;
 use layout::Layout;
+use layout::Weeks;
 use record::State;
 ghost use mathlib.Core.Path.{_≡_};
 ghost use mathlib.Core.Bool.{true};
@@ -9,14 +10,15 @@ ghost use mathlib.Core.List.{_∷_, [], map};
 ghost use Prim.Native.Nat.{_+_, _-_, _*_, _<_, _≤_};
 ghost use lib.ListN.{length};
 ghost use Rattle.model.specs.Lists.{count, flat};
-ghost use Rattle.model.specs.Numbers.{bigEndian, bytesOf, part, splice, encode};
+ghost use Rattle.model.specs.Numbers.{bytesOf, part, splice, encode};
 ghost use Rattle.model.specs.Names.{fold};
-ghost use Rattle.model.specs.Clock.{cycle};
-ghost use Rattle.model.specs.Table.{lineAt, sizeOf, readTable, tableBytes, slotBytes, unusedLine};
+ghost use Rattle.model.specs.Clock.{cycleOf};
+ghost use Rattle.model.specs.Table.{placeWith, placeBytes, sizeOf, readTable, tableBytes, slotBytes, unusedLine};
 ghost use Rattle.model.specs.Serve.{ended, slotRunOut, freeIfRunOut, movedOn};
 ghost use Rattle.model.specs.Calls.{freedBy, goodRoster};
 ghost use Rattle.layout.specs.Shape.{slotsTo};
-ghost use Rattle.layout.specs.Places.{LayoutFor};
+ghost use Rattle.layout.specs.Weeks.{weeksOf};
+ghost use Rattle.layout.specs.Places.{layoutIn, LayoutFor};
 ghost use Rattle.table.specs.Written.{WellFormed, FormedSlots, Written};
 ghost use Rattle.table.specs.Stored.{holderFields, leaseFields, nameBytes, entryBytes};
 ghost use Rattle.table.specs.Fresh.{unusedLines, freeSlots, fresh};
@@ -110,13 +112,25 @@ pub fn renew_at(slots: &mut [u8], i: usize, lease: u32, stamp: u32)
 
 // THE CLOCK, AND WHAT HAS RUN OUT
 
-// The clock's two numbers are written.
-fn put_clock(t: &mut [u8], c: Clock)
-    requires { ⌜ lineAt 0 ≤ length (now t) ⌝ }
-    ensures { λ _. ⌜ now (t .exit) ≡ splice 1 8 (encode ((4, c .place) ∷ (4, c .running) ∷ [])) (now (t .entry)) ⌝ }
+// The last place is written, in as many bytes as its weeks have.
+fn put_place(t: &mut [u8], weeks: Weeks, place: u64)
+    requires { ⌜ (9 ≤ length (now t)) × (place < cycleOf (weeksOf weeks)) ⌝ }
+    ensures { λ _. ⌜ now (t .exit) ≡ splice 1 (placeWith (weeksOf weeks)) (bytesOf (placeWith (weeksOf weeks)) place) (now (t .entry)) ⌝ }
 {
-    octets::put32(t, layout::PLACE_AT, c.place);
-    octets::put32(t, layout::RUNNING_AT, c.running);
+    match weeks {
+        Weeks::Ten => octets::put32(t, layout::PLACE_AT, place as u32),
+        Weeks::Thirteen => octets::put64(t, layout::PLACE_AT, place),
+    }
+}
+
+// The clock's two numbers are written.
+fn put_clock(t: &mut [u8], l: Layout, c: Clock)
+    requires { ⌜ LayoutFor l (length (now t)) × (l .«slots_at» ≤ length (now t)) × (c .place < cycleOf (weeksOf (l .weeks))) ⌝ }
+    ensures { λ _. ⌜ now (t .exit) ≡ splice 1 (placeBytes (layoutIn l) + 4) (encode ((placeBytes (layoutIn l), c .place) ∷ (4, c .running) ∷ [])) (now (t .entry)) ⌝ }
+{
+    let weeks = l.weeks;
+    put_place(t, weeks, c.place);
+    octets::put32(t, l.lines_at - layout::RUNNING, c.running);
 }
 
 // Entries that have run out end. Returns how many there were.
@@ -137,16 +151,14 @@ fn free_run_out(slots: &mut [u8], n: usize, running: u32) -> usize
 }
 
 // The clock is moved on to a place, then run-out entries end. Returns how many there were. No entry had run out before: while the count stays, none does.
-pub fn move_on(t: &mut [u8], l: Layout, place: u32) -> usize
-    requires { ⌜ WellFormed (now t) × LayoutFor l (length (now t)) × (bigEndian (now t) 1 4 < cycle) × (place < cycle) × (count (readTable (now t) .slots) (slotRunOut (bigEndian (now t) 5 4)) ≡ 0) ⌝ }
+pub fn move_on(t: &mut [u8], l: Layout, place: u64) -> usize
+    requires { ⌜ WellFormed (now t) × LayoutFor l (length (now t)) × (readTable (now t) .clock .place < cycleOf (weeksOf (l .weeks))) × (place < cycleOf (weeksOf (l .weeks))) × (count (readTable (now t) .slots) (slotRunOut (readTable (now t) .clock .running)) ≡ 0) ⌝ }
     ensures { λ r. ⌜ Written (now (t .exit)) (movedOn (readTable (now (t .entry))) place) × (r ≡ freedBy (readTable (now (t .entry))) place) ⌝ }
 {
-    let c = Clock {
-        place: octets::get32(t, layout::PLACE_AT),
-        running: octets::get32(t, layout::RUNNING_AT),
-    };
-    let d = clock::advanced(c, place);
-    put_clock(t, d);
+    let weeks = l.weeks;
+    let c = record::clock_at(t, l);
+    let d = clock::advanced(c, weeks, place);
+    put_clock(t, l, d);
     if d.running == c.running {
         return 0;
     }
@@ -190,16 +202,17 @@ fn clear_slots(slots: &mut [u8], n: usize)
     }
 }
 
-// A table made: the place, running count 0, the roster in the order given, and free slots.
-pub fn make_fresh(t: &mut [u8], l: Layout, place: u32, roster: &[u8])
-    requires { ⌜ LayoutFor l (length (now t)) × (length (now t) ≡ sizeOf (l .n)) × (goodRoster (l .n) (now roster) ≡ true) ⌝ }
-    ensures { λ _. ⌜ now (t .exit) ≡ tableBytes (fresh place (now (roster .entry)) (l .n)) ⌝ }
+// A table made: the layout's clock record, the place, running count 0, the roster in the order given, and free slots.
+pub fn make_fresh(t: &mut [u8], l: Layout, place: u64, roster: &[u8])
+    requires { ⌜ LayoutFor l (length (now t)) × (length (now t) ≡ sizeOf (layoutIn l) (l .n)) × (goodRoster (l .n) (now roster) ≡ true) × (place < cycleOf (weeksOf (l .weeks))) ⌝ }
+    ensures { λ _. ⌜ now (t .exit) ≡ tableBytes (fresh (layoutIn l) place (now (roster .entry)) (l .n)) ⌝ }
 {
     let k = roster.len();
+    let weeks = l.weeks;
     let a = l.lines_at;
     let z = l.slots_at;
-    octets::put8(t, 0, layout::CLOCK_KIND);
-    put_clock(t, Clock { place, running: 0 });
+    octets::put8(t, 0, layout::clock_kind(weeks));
+    put_clock(t, l, Clock { place, running: 0 });
     octets::copy(t, a, roster, 0, k);
     clear_lines(&mut t[a..], k / layout::LINE);
     clear_slots(&mut t[z..], l.n);

@@ -11,7 +11,7 @@ use lib.Dec.{eqb}
 use borrow.Author.Tests.{eqb-true, eqb-false}
 use Rattle.model.specs.Clock.{advance}
 use Rattle.model.specs.Query.{Question, LlqOption, question, llqOption}
-use Rattle.model.specs.Table.{Entry, Slot, free, held, Table, readTable}
+use Rattle.model.specs.Table.{Entry, Slot, free, held, Table, cycleIn, readTable}
 use Rattle.model.specs.Sound.{Sound}
 use Rattle.model.specs.Serve.{Sender, serveOption, withSlot, slotOf, establish}
 use Rattle.model.specs.Calls.{ServeCall}
@@ -132,7 +132,7 @@ option-done s r q o t x =
 
 -- ALL OPTIONS of an answered datagram: the clock stays as its reading moved it
 pub clock-at : (c : ServeCall) (before after : List ℕ) (d : Datagram c before after) (m : ℕ) → m ≤ doneOptions c
-    → d .tables m .clock ≡ advance (readTable before .clock) (c .week * 604800 + c .second)
+    → d .tables m .clock ≡ advance (cycleIn (readTable before)) (readTable before .clock) (c .week * 604800 + c .second)
 clock-at c before after d zero h = d .moved .clock
 clock-at c before after d (suc m) h =
     clock-after (c .sender) (question (c .datagram) m) (llqOption (c .datagram) m) (d .tables m) (d .tables (suc m)) (d .options m (omega arith) .change)

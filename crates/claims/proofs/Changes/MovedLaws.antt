@@ -7,7 +7,7 @@ use lib.ListN.{getD}
 use lib.Dec.{leb}
 use borrow.Author.Tests.{leb-true, le-leb}
 use Rattle.model.specs.Clock.{advance, ageAt}
-use Rattle.model.specs.Table.{Entry, Slot, free, held, Table}
+use Rattle.model.specs.Table.{Entry, Slot, free, held, Table, cycleIn}
 use Rattle.model.specs.Serve.{slotRunOut, freeIfRunOut, movedOn, slotOf}
 use Rattle.model.proofs.ListLaws.{length-map}
 use Rattle.claims.specs.Changes.{RunOut, Moved}
@@ -38,8 +38,9 @@ module _ (r : ℕ) where
 pub moved-on : (t : Table) (place : ℕ) → Moved place t (movedOn t place)
 unfolding movedOn
 moved-on t place =
-    let r = advance (t .clock) place .running in
+    let r = advance (cycleIn t) (t .clock) place .running in
     record {
+      layout = refl;
       clock = refl;
       roster = refl;
       size = length-map (freeIfRunOut r) (t .slots);

@@ -19,7 +19,7 @@ use Rattle.claims.specs.Demand3.{countOf, Counted}
 use Rattle.claims.proofs.AcceptedCalls.{tick-accepted, tick-judged, serve-accepted}
 use Rattle.claims.proofs.Refusals.{behind, length-is, refusals}
 use Rattle.claims.proofs.Relation.MoveKeeps.{move-keeps, freed-count}
-use Rattle.claims.proofs.Demand3.CallSteps.{Invariant, kept-sound, kept-back, after-is}
+use Rattle.claims.proofs.Demand3.CallSteps.{Invariant, kept-sound, kept-back, kept-length, kept-reading, after-is}
 
 -- an answered tick frees as many as are struck from the tally
 tick-freed : (size : ℕ) (b : List ℕ) (y : Tally) (c : TickCall) → Invariant size b y → tickRefusal c b ≡ 0
@@ -27,8 +27,9 @@ tick-freed : (size : ℕ) (b : List ℕ) (y : Tally) (c : TickCall) → Invarian
 tick-freed size b y c x e =
     let at = placeOf (c .week) (c .second) in
     let t = x .table in
-    let r = move-keeps t y at (placed (c .week) (c .second) (tick-accepted c b e)) (x .related) in
-    let a : tallyAfter size y (ticking c) ≡ moveTally y at = after-is size y (ticking c) 0 (sym (tick-judged c b size (kept-sound x)) ∙ e) in
+    let v = kept-reading x (c .week) (c .second) (tick-accepted c b e) in
+    let r = move-keeps t y at (placed (t .layout .weeks) (c .week) (c .second) v) (x .related) in
+    let a : tallyAfter size y (ticking c) ≡ moveTally y at = after-is size y (ticking c) 0 (sym (tick-judged c b size (kept-length x) (kept-sound x)) ∙ e) in
     rw (a, tick-answered c b e, kept-back x)
     (omega (arith, freed-count t at, r .entries any, x .related .entries any, count-any (moveTally y at .holdings), count-any (y .holdings)))
 

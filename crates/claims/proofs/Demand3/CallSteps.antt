@@ -5,9 +5,9 @@ use mathlib.Core.Bool.{true, cond}
 use mathlib.Core.List.{List}
 use lib.ListN.{length}
 use lib.Dec.{eqb, eqb·suc-zero}
-use Rattle.model.specs.Clock.{placeOf}
+use Rattle.model.specs.Clock.{validReading, placeOf}
 use Rattle.model.specs.Query.{qdcount, matched}
-use Rattle.model.specs.Table.{Table, tableBytes, readTable, sizeOf, slotsIn}
+use Rattle.model.specs.Table.{Layout, Table, tableBytes, readTable, sizeOf, layoutOf}
 use Rattle.model.specs.Rules.{holdings}
 use Rattle.model.specs.Sound.{SoundBytes, soundBytes}
 use Rattle.model.specs.Serve.{movedOn}
@@ -16,24 +16,27 @@ use Rattle.model.specs.Meets.{model}
 use Rattle.model.proofs.TableLaws.{length-table}
 use Rattle.model.proofs.Meaning.{read-stored, means-sound}
 use Rattle.model.proofs.ClockLaws.{placed}
+use Rattle.model.proofs.StepLaws.{moved-layout}
 use Rattle.model.proofs.CallLaws.{length-facts, make-number, tick-number, serve-number}
-use Rattle.claims.specs.Tally.{Tally, Call, making, ticking, serving, moveTally, judged, beginTally, doneTally, tallyAfter}
+use Rattle.claims.specs.Tally.{Tally, Call, making, ticking, serving, moveTally, judged, beginTally, doneTally, tallyBefore, tallyAfter}
 use Rattle.claims.specs.Events.{Event, made, ticked, served, callOf, numberOf, tableOf, Happens, MakeInRange, ServeInRange, InRange}
 use Rattle.claims.specs.Demand3.{Agrees}
+use Rattle.claims.proofs.LengthLaws.{slots-for}
 use Rattle.claims.proofs.Relation.{Related}
 use Rattle.claims.proofs.Demand3.Permutations.{alike-is-perm}
 use Rattle.claims.proofs.Relation.MoveKeeps.{move-keeps}
 use Rattle.claims.proofs.AcceptedCalls.{make-accepted, make-judged, tick-accepted, tick-judged, serve-accepted, serve-judged}
 use Rattle.claims.proofs.Demand3.FreshTable.{fresh-related}
-use Rattle.claims.proofs.Demand3.TallyLaws.{before-n}
+use Rattle.claims.proofs.Demand3.TallyLaws.{before-n, before-cycle}
 use Rattle.claims.proofs.Relation.DatagramKeeps.{done-le, datagram-keeps}
+use Rattle.claims.proofs.Relation.TableTally.{same-layout}
 
 -- THE INVARIANT: bytes of a table that is related to the tally, and of the buffer's length
 pub record Invariant (size : ℕ) (b : List ℕ) (y : Tally) : Type 0 where
   pub table : Table
   pub bytes : tableBytes table ≡ b
   pub related : Related table y
-  pub room : sizeOf (y .n) ≡ size
+  pub room : sizeOf (table .layout) (y .n) ≡ size
 
 module _ {size : ℕ} {b : List ℕ} {y : Tally} (k : Invariant size b y) where
   abbrev pub kept-stored : SoundBytes b
@@ -48,12 +51,17 @@ module _ {size : ℕ} {b : List ℕ} {y : Tally} (k : Invariant size b y) where
   pub kept-length : length b ≡ size
   kept-length =
       let e = length-table (k .table) (k .related .sound .lines) (k .related .fits) in
-      sym (ap length (k .bytes)) ∙ e ∙ ap sizeOf (k .related .n) ∙ k .room
+      sym (ap length (k .bytes)) ∙ e ∙ ap (sizeOf (k .table .layout)) (k .related .n) ∙ k .room
+
+  -- a reading that the bytes' weeks allow, the table's do
+  pub kept-reading : (week second : ℕ) → validReading (readTable b .layout .weeks) week second ≡ true → validReading (k .table .layout .weeks) week second ≡ true
+  kept-reading week second h = subst (λ (t : Table). validReading (t .layout .weeks) week second ≡ true) kept-back h
 
   pub kept-agrees : Agrees b y
   kept-agrees =
       record {
         stored = kept-stored;
+        cycle = k .related .cycle;
         place = k .related .place;
         running = k .related .running;
         n = k .related .n;
@@ -64,14 +72,15 @@ module _ {size : ℕ} {b : List ℕ} {y : Tally} (k : Invariant size b y) where
 -- MAKING
 
 pub make-kept : (c : MakeCall) (b : List ℕ) → MakeInRange c → makeRefusal c (length b) ≡ 0
-    → Invariant (length b) (tableBytes (freshTable c (slotsIn (length b)))) (beginTally (length b) c)
+    → Invariant (length b) (tableBytes (freshTable c (length b))) (beginTally (length b) c)
+unfolding freshTable
 make-kept c b range e =
     let p = make-accepted c (length b) e in
     record {
-      table = freshTable c (slotsIn (length b));
+      table = freshTable c (length b);
       bytes = refl;
       related = fresh-related c (length b) p (range .roster);
-      room = sym (length-facts (length b) (p .room) .whole);
+      room = sym (length-facts (length b) (p .room) .whole ∙ ap (sizeOf (layoutOf (length b))) (slots-for (length b)));
     }
 
 -- the tally after a call of number k
@@ -88,7 +97,7 @@ refused {size} {b} {y} k c x = rw (eqb·suc-zero k) x
 made-next : (size : ℕ) (b : List ℕ) (y : Tally) (c : MakeCall) → MakeInRange c → Invariant size b y → (k : ℕ) → makeRefusal c (length b) ≡ k
     → Invariant size (madeBy k c b .table) (next k size y (making c))
 made-next size b y c range x zero e =
-    subst (λ (n : ℕ). Invariant n (tableBytes (freshTable c (slotsIn (length b)))) (beginTally n c)) (kept-length x) (make-kept c b range e)
+    subst (λ (n : ℕ). Invariant n (tableBytes (freshTable c (length b))) (beginTally n c)) (kept-length x) (make-kept c b range e)
 made-next size b y c range x (suc k) e = refused k (making c) x
 
 -- TICKING
@@ -98,11 +107,12 @@ ticked-next : (size : ℕ) (b : List ℕ) (y : Tally) (c : TickCall) → Invaria
 unfolding moveTally
 ticked-next size b y c x zero e =
     let at = placeOf (c .week) (c .second) in
+    let v = kept-reading x (c .week) (c .second) (tick-accepted c b e) in
     record {
       table = movedOn (x .table) at;
       bytes = ap (λ (t : Table). tableBytes (movedOn t at)) (sym (kept-back x));
-      related = move-keeps (x .table) y at (placed (c .week) (c .second) (tick-accepted c b e)) (x .related);
-      room = x .room;
+      related = move-keeps (x .table) y at (placed (x .table .layout .weeks) (c .week) (c .second) v) (x .related);
+      room = ap (λ (l : Layout). sizeOf l (y .n)) (moved-layout (x .table) at) ∙ x .room;
     }
 ticked-next size b y c x (suc k) e = refused k (ticking c) x
 
@@ -114,11 +124,13 @@ unfolding tableAfter
 served-next size b lent y c range x zero e =
     let p = serve-accepted c b e in
     let i = cond (matched (c .datagram)) (qdcount (c .datagram)) 0 in
+    let r = datagram-keeps c (x .table) y range (kept-reading x (c .week) (c .second) (p .reading)) (p .questions) (x .related) i (done-le c) in
+    let l = same-layout (x .table) (tableBefore c (x .table) i) y (tallyBefore c y i) (x .related) r (before-cycle c y i) in
     record {
       table = tableBefore c (x .table) i;
       bytes = ap (λ (t : Table). tableBytes (tableBefore c t i)) (sym (kept-back x));
-      related = datagram-keeps c (x .table) y range (p .reading) (p .questions) (x .related) i (done-le c);
-      room = ap sizeOf (before-n c y i) ∙ x .room;
+      related = r;
+      room = ap (λ (k : Layout). sizeOf k (tallyBefore c y i .n)) l ∙ ap (sizeOf (x .table .layout)) (before-n c y i) ∙ x .room;
     }
 served-next size b lent y c range x (suc k) e = refused k (serving c) x
 
@@ -133,12 +145,12 @@ kept-step size b y (made c k after) range x h =
     (subst (Invariant size (make c b .table)) (sym (after-is size y (making c) (makeRefusal c (length b)) (sym j)))
     (made-next size b y c range x (makeRefusal c (length b)) refl))
 kept-step size b y (ticked c k freed after) range x h =
-    let j = tick-judged c b size (kept-sound x) in
+    let j = tick-judged c b size (kept-length x) (kept-sound x) in
     subst (λ (a : List ℕ). Invariant size a (tallyAfter size y (ticking c))) (sym (h .table))
     (subst (Invariant size (tick c b .table)) (sym (after-is size y (ticking c) (tickRefusal c b) (sym j)))
     (ticked-next size b y c x (tickRefusal c b) refl))
 kept-step size b y (served c lent k n after left) range x h =
-    let j = serve-judged c b size (kept-sound x) in
+    let j = serve-judged c b size (kept-length x) (kept-sound x) in
     subst (λ (a : List ℕ). Invariant size a (tallyAfter size y (serving c))) (sym (h .1 .table))
     (subst (Invariant size (serve c b lent .table)) (sym (after-is size y (serving c) (serveRefusal c b) (sym j)))
     (served-next size b lent y c range x (serveRefusal c b) refl))
@@ -146,6 +158,6 @@ kept-step size b y (served c lent k n after left) range x h =
 pub number-step : (size : ℕ) (b : List ℕ) (y : Tally) (e : Event) → Invariant size b y → Happens model b e → numberOf e ≡ judged size (callOf e)
 number-step size b y (made c k after) x h =
     h .number ∙ make-number c b ∙ make-judged c (length b) ∙ ap (λ (n : ℕ). judged n (making c)) (kept-length x)
-number-step size b y (ticked c k freed after) x h = h .number ∙ tick-number c b ∙ tick-judged c b size (kept-sound x)
+number-step size b y (ticked c k freed after) x h = h .number ∙ tick-number c b ∙ tick-judged c b size (kept-length x) (kept-sound x)
 number-step size b y (served c lent k n after left) x h =
-    h .1 .number ∙ serve-number c b lent ∙ serve-judged c b size (kept-sound x)
+    h .1 .number ∙ serve-number c b lent ∙ serve-judged c b size (kept-length x) (kept-sound x)

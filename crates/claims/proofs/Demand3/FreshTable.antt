@@ -1,25 +1,27 @@
 -- An answered making leaves a table related to the tally that it begins. Assumes nothing.
 use Prim.Native.Nat.{ℕ, zero, suc, _+_, _*_, _≤_, _<_}
 use native.Mathlib.Omega.{arith}
-use mathlib.Core.Path.{_≡_, refl, sym, ap, subst}
-use mathlib.Core.Bool.{true, not}
+use mathlib.Core.Path.{_≡_, refl, sym, ap, _∙_, subst}
+use mathlib.Core.Bool.{not}
 use mathlib.Core.List.{List, [], _∷_}
 use lib.ListN.{length, replicate, length-replicate, getD-replicate}
 use lib.Dec.{lit<}
 use Rattle.model.specs.Lists.{count, any}
 use Rattle.model.specs.Numbers.{Bytes}
-use Rattle.model.specs.Clock.{validReading}
-use Rattle.model.specs.Table.{Line, free, readLine, slotsIn}
+use Rattle.model.specs.Clock.{Weeks}
+use Rattle.model.specs.Table.{Line, free, readLine, layoutOf, slotsIn}
 use Rattle.model.specs.Rules.{Holding, Counts, entriesOf, holdings, heldBy, numbered, limitOf, reserve, shares}
 use Rattle.model.specs.Sound.{nonZeroNumber, validLease, live, validName, sameQuestion, Sound, FitsSlot, Fits}
-use Rattle.model.specs.Calls.{MakeCall, rosterCount, rosterLines, goodRoster, freshTable}
+use Rattle.model.specs.Calls.{MakeCall, rosterCount, rosterLines, freshTable}
 use Rattle.model.proofs.ListLaws.{length-upTo, getD-upTo}
 use Rattle.model.proofs.ClockLaws.{placed}
 use Rattle.model.proofs.Facts.{roster-facts}
 use Rattle.model.proofs.CallLaws.{length-facts, given-roster}
 use Rattle.model.proofs.Meaning.{fits-line}
+use Rattle.model.proofs.StepLaws.{cycle-fits}
 use Rattle.claims.specs.Tally.{beginTally}
 use Rattle.claims.proofs.Relation.{Related}
+use Rattle.claims.proofs.LengthLaws.{cycle-for, slots-for}
 use Rattle.claims.proofs.AcceptedCalls.{MakeAccepted}
 use Rattle.claims.proofs.RosterGiven.{lines-given}
 
@@ -38,27 +40,34 @@ unfolding reserve shares
 reserve-none [] = refl
 reserve-none (l ∷ ls) = omega (arith, reserve-none ls)
 
-module _ (c : MakeCall) (n : ℕ) (min : 1 ≤ n) (max : n ≤ 64) (v : validReading (c .week) (c .second) ≡ true) (g : goodRoster n (c .roster) ≡ true) where
-  fresh-none : holdings (freshTable c n) ≡ []
+module _ (c : MakeCall) (size : ℕ) (p : MakeAccepted c size) where
+  abbrev n : ℕ
+  n = slotsIn size
+
+  abbrev w : Weeks
+  w = layoutOf size .weeks
+
+  fresh-none : holdings (freshTable c size) ≡ []
   unfolding freshTable
   fresh-none = no-entries 0 n
 
   -- what holds of the count of no holdings holds of the table's
-  of-none : (P : Counts → Type 0) → P (count none) → P (count (holdings (freshTable c n)))
+  of-none : (P : Counts → Type 0) → P (count none) → P (count (holdings (freshTable c size)))
   of-none P p = subst (λ (l : List Holding). P (count l)) (sym fresh-none) p
 
-  fresh-sound : Sound (freshTable c n)
+  fresh-sound : Sound (freshTable c size)
   unfolding freshTable
   fresh-sound =
       let ls = rosterLines (c .roster) in
-      let w = given-roster n (c .roster) g in
-      let f = roster-facts n ls (w .sound) in
+      let z = length-facts size (p .room) in
+      let g = given-roster n (c .roster) (p .roster) in
+      let f = roster-facts n ls (g .sound) in
       let size : length (replicate n free) ≡ n = length-replicate n free in
       record {
-        place = placed (c .week) (c .second) v;
-        slotsMin = omega arith;
-        slotsMax = omega arith;
-        lines = omega (arith, length-upTo (rosterCount (c .roster)) (λ i. readLine (c .roster) (19 * i)), w .few);
+        place = placed w (c .week) (c .second) (p .reading);
+        slotsMin = omega (arith, z .slotsMin);
+        slotsMax = omega (arith, z .slotsMax);
+        lines = omega (arith, length-upTo (rosterCount (c .roster)) (λ i. readLine (c .roster) (19 * i)), g .few);
         listedOnce = f .listedOnce;
         validLines = f .validLines;
         shareSum = omega (arith, f .shareSum);
@@ -72,11 +81,11 @@ module _ (c : MakeCall) (n : ℕ) (min : 1 ≤ n) (max : n ≤ 64) (v : validRea
         reserved = of-none (λ (k : Counts). reserve ls k + k any ≤ length (replicate n free)) (omega (arith, reserve-none ls, f .shareSum));
       }
 
-  fresh-fits : Bytes (c .roster) → Fits (freshTable c n)
+  fresh-fits : Bytes (c .roster) → Fits (freshTable c size)
   unfolding freshTable
   fresh-fits b =
       record {
-        place = omega (arith, placed (c .week) (c .second) v);
+        place = omega (arith, placed w (c .week) (c .second) (p .reading), cycle-fits w);
         running = lit< tt;
         lines = λ i l.
             let h : i < rosterCount (c .roster) = omega (arith, length-upTo (rosterCount (c .roster)) (λ i. readLine (c .roster) (19 * i))) in
@@ -87,19 +96,16 @@ module _ (c : MakeCall) (n : ℕ) (min : 1 ≤ n) (max : n ≤ 64) (v : validRea
             subst FitsSlot (sym (getD-replicate n i free free h)) tt;
       }
 
-pub fresh-related : (c : MakeCall) (size : ℕ) → MakeAccepted c size → Bytes (c .roster) → Related (freshTable c (slotsIn size)) (beginTally size c)
+pub fresh-related : (c : MakeCall) (size : ℕ) → MakeAccepted c size → Bytes (c .roster) → Related (freshTable c size) (beginTally size c)
 unfolding freshTable
 fresh-related c size p b =
-    let n = slotsIn size in
-    let z = length-facts size (p .room) in
-    let min = z .slotsMin in
-    let max = z .slotsMax in
     record {
+      cycle = cycle-for size;
       place = refl;
       running = refl;
-      n = length-replicate n free;
+      n = length-replicate (slotsIn size) free ∙ slots-for size;
       roster = lines-given (c .roster);
-      entries = λ q. ap (λ (l : List Holding). count l q) (fresh-none c n min max (p .reading) (p .roster));
-      sound = fresh-sound c n min max (p .reading) (p .roster);
-      fits = fresh-fits c n min max (p .reading) (p .roster) b;
+      entries = λ q. ap (λ (l : List Holding). count l q) (fresh-none c size p);
+      sound = fresh-sound c size p;
+      fits = fresh-fits c size p b;
     }

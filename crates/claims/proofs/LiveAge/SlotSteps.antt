@@ -9,7 +9,7 @@ use lib.Dec.{leb}
 use borrow.Author.Tests.{leb-true, leb-false}
 use Rattle.model.specs.Clock.{Clock, advance, ageAt}
 use Rattle.model.specs.Query.{Question, LlqOption, question, llqOption}
-use Rattle.model.specs.Table.{Entry, Slot, free, held, Table, readTable}
+use Rattle.model.specs.Table.{Entry, Slot, free, held, Table, cycleIn, readTable}
 use Rattle.model.specs.Lists.{count, any}
 use Rattle.model.specs.Serve.{Sender, slotOf}
 use Rattle.model.specs.Calls.{MakeCall, TickCall, ServeCall, serve}
@@ -83,7 +83,7 @@ moved-step place t u m j x w = go (slotOf t j) refl
 module _ (c : ServeCall) (before after : List ℕ) (d : Datagram c before after) where
   -- the count as the reading moved it
   abbrev running : ℕ
-  running = advance (readTable before .clock) (c .week * 604800 + c .second) .running
+  running = advance (cycleIn (readTable before)) (readTable before .clock) (c .week * 604800 + c .second) .running
 
   running-at : (m : ℕ) → m ≤ doneOptions c → d .tables m .clock .running ≡ running
   running-at m h = ap (λ (k : Clock). k .running) (clock-at c before after d m h)

@@ -1,7 +1,7 @@
 -- The reading, the datagram's size and its header: each test against its faults. Assumes nothing.
-use Prim.Native.Nat.{ℕ, _≤_}
+use Prim.Native.Nat.{ℕ, _+_, _*_, _≤_}
 use native.Mathlib.Omega.{arith}
-use mathlib.Core.Path.{_≡_, sym, _∙_}
+use mathlib.Core.Path.{_≡_, sym, ap, _∙_}
 use mathlib.Core.Bool.{true, false, _&&_}
 use mathlib.Core.List.{List}
 use mathlib.Core.Logic.{_≢_}
@@ -9,44 +9,63 @@ use lib.ListN.{length, getD}
 use lib.Dec.{eqb, leb, ltb}
 use borrow.Author.Tests.{leb-false, ltb-true, ltb-false, eqb-false}
 use Rattle.model.specs.Numbers.{Bytes}
-use Rattle.model.specs.Clock.{validReading}
+use Rattle.model.specs.Clock.{Weeks, tenBit, thirteenBit, weeksIn, validReading}
 use Rattle.model.specs.Query.{wrongSize, flagQR, flagOpcode, flagTC, qdcount, ancount, nscount, arcount, goodHeader}
-use Rattle.model.specs.Table.{slotsIn, sizeOf}
+use Rattle.model.specs.Table.{Layout, layoutOf, slotsIn, sizeOf}
 use Rattle.model.specs.Calls.{tableLength}
 use Rattle.model.proofs.ListLaws.{and-left, and-right, or-left, or-right, not-both, one-of}
 use Rattle.model.proofs.QueryLaws.{HeaderFacts, header-facts}
+use Rattle.model.proofs.RoundTrip.{layout-back, slots-back}
 use Rattle.model.proofs.CallLaws.{length-facts}
+use Rattle.claims.specs.Lengths.{lastWeek}
 use Rattle.claims.specs.Refusals.{WrongLength, ReadingFault, SizeFault, HeaderFault}
+use Rattle.claims.proofs.LengthLaws.{weeks-for}
 use Rattle.claims.proofs.Refusals.QuestionReading.{big-two}
 
 -- THE TABLE'S LENGTH
 
-pub bad-length : (size : ℕ) → tableLength size ≡ false → WrongLength size
+-- it is the length of no table of 1 to 64 slots, in either layout
+pub not-laid : (size : ℕ) → tableLength size ≡ false → (n : ℕ) → 1 ≤ n → n ≤ 64 → (l : Layout) → size ≢ sizeOf l n
 unfolding tableLength
-bad-length size h n low high e =
-    let s : slotsIn size ≡ n = omega arith in
-    not-both (leb 1 (slotsIn size) && leb (slotsIn size) 64) (eqb size (sizeOf (slotsIn size)))
+not-laid size h n low high l e =
+    let s : slotsIn size ≡ n = ap slotsIn e ∙ slots-back l n in
+    let k : layoutOf size ≡ l = ap layoutOf e ∙ layout-back l n in
+    not-both (leb 1 (slotsIn size) && leb (slotsIn size) 64) (eqb size (sizeOf (layoutOf size) (slotsIn size)))
     (not-both (leb 1 (slotsIn size)) (leb (slotsIn size) 64)
-    (λ x. omega (arith, leb-false 1 (slotsIn size) x))
-    (λ t x. omega (arith, leb-false (slotsIn size) 64 x)))
-    (λ t x. eqb-false size (sizeOf (slotsIn size)) x (rw s e))
+    (λ x. omega (arith, s, leb-false 1 (slotsIn size) x))
+    (λ t x. omega (arith, s, leb-false (slotsIn size) 64 x)))
+    (λ t x. eqb-false size (sizeOf (layoutOf size) (slotsIn size)) x (e ∙ sym (ap (λ (l : Layout). sizeOf l n) k) ∙ sym (ap (sizeOf (layoutOf size)) s)))
     h
 
+pub bad-length : (size : ℕ) → tableLength size ≡ false → WrongLength size
+bad-length size h n low high = (not-laid size h n low high (record { weeks = tenBit }), not-laid size h n low high (record { weeks = thirteenBit }))
+
 pub good-length : (size : ℕ) → tableLength size ≡ true → WrongLength size → ⊥
-good-length size h wrong = let f = length-facts size h in wrong (slotsIn size) (f .slotsMin) (f .slotsMax) (f .whole)
+good-length size h wrong =
+    let f = length-facts size h in
+    let w = wrong (slotsIn size) (f .slotsMin) (f .slotsMax) in
+    go (layoutOf size .weeks) (slotsIn size) (f .whole) w
+  where
+    go : (w : Weeks) (n : ℕ) → size ≡ sizeOf (record { weeks = w }) n → (size ≢ 313 + 320 * n) × (size ≢ 317 + 320 * n) → ⊥
+    go tenBit n e w = w .0 e
+    go thirteenBit n e w = w .1 e
 
 -- THE READING
 
-module _ (week second : ℕ) where
-  pub bad-reading : validReading week second ≡ false → ReadingFault week second
+-- on a table of a length
+module _ (size week second : ℕ) where
+  abbrev weeks : ℕ
+  weeks = weeksIn (layoutOf size .weeks)
+
+  pub bad-reading : validReading (layoutOf size .weeks) week second ≡ false → ReadingFault (lastWeek size) week second
   bad-reading =
-      not-both (ltb week 1024) (ltb second 604800)
-      (λ x. ReadingFault.weekTooLarge (omega (arith, ltb-false week 1024 x)))
+      not-both (ltb week weeks) (ltb second 604800)
+      (λ x. ReadingFault.weekTooLarge (omega (arith, weeks-for size, ltb-false week weeks x)))
       (λ t x. ReadingFault.secondTooLarge (omega (arith, ltb-false second 604800 x)))
 
-  pub good-reading : validReading week second ≡ true → ReadingFault week second → ⊥
-  good-reading h (ReadingFault.weekTooLarge l) = omega (arith, ltb-true week 1024 (and-left (ltb week 1024) (ltb second 604800) h))
-  good-reading h (ReadingFault.secondTooLarge l) = omega (arith, ltb-true second 604800 (and-right (ltb week 1024) (ltb second 604800) h))
+  pub good-reading : validReading (layoutOf size .weeks) week second ≡ true → ReadingFault (lastWeek size) week second → ⊥
+  good-reading h (ReadingFault.weekTooLarge l) = omega (arith, weeks-for size, ltb-true week weeks (and-left (ltb week weeks) (ltb second 604800) h))
+  good-reading h (ReadingFault.secondTooLarge l) = omega (arith, ltb-true second 604800 (and-right (ltb week weeks) (ltb second 604800) h))
 
 -- THE SIZE
 

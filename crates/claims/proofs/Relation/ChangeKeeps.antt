@@ -26,6 +26,7 @@ pub related-same : (t : Table) (y : Tally) (hs : List Holding) â†’ Related t y â
     â†’ Related t (withHoldings y hs)
 related-same t y hs r e =
     record {
+      cycle = r .cycle;
       place = r .place;
       running = r .running;
       n = r .n;
@@ -119,6 +120,7 @@ module _ (m : Holding â†’ Bool) (t : Table) (y : Tally) (r : Related t y) (i : â
     one-changed =
         related-next t (withSlot t i (held e)) y (withHoldings y after) r (length-set (t .slots) i (held e)) refl
         (record {
+          cycle = r .cycle;
           place = r .place;
           running = r .running;
           placeLess = r .sound .place;
@@ -155,6 +157,7 @@ module _ (m : Holding â†’ Bool) (t : Table) (y : Tally) (r : Related t y) (i : â
   one-struck =
       related-next t (withSlot t i free) y (withHoldings y left) r (length-set (t .slots) i free) refl
       (record {
+        cycle = r .cycle;
         place = r .place;
         running = r .running;
         placeLess = r .sound .place;

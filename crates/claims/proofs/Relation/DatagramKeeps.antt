@@ -38,12 +38,12 @@ arguments-at c i v g h =
       name = question-valid d at k;
     }
 
-module _ (c : ServeCall) (t : Table) (y : Tally) (v : ServeInRange c) (w : validReading (c .week) (c .second) ≡ true)
+module _ (c : ServeCall) (t : Table) (y : Tally) (v : ServeInRange c) (w : validReading (t .layout .weeks) (c .week) (c .second) ≡ true)
     (g : goodQuestions (c .datagram) (qdcount (c .datagram)) ≡ true) (r : Related t y) where
   -- before option i
   pub datagram-keeps : (i : ℕ) → i ≤ qdcount (c .datagram) → Related (tableBefore c t i) (tallyBefore c y i)
   unfolding tableBefore tallyBefore
-  datagram-keeps zero h = move-keeps t y (placeOf (c .week) (c .second)) (placed (c .week) (c .second) w) r
+  datagram-keeps zero h = move-keeps t y (placeOf (c .week) (c .second)) (placed (t .layout .weeks) (c .week) (c .second) w) r
   datagram-keeps (suc i) h =
       option-keeps (c .sender) (c .random) (question (c .datagram) i) (llqOption (c .datagram) i) (tableBefore c t i) (tallyBefore c y i)
       (arguments-at c i v g h) (datagram-keeps i (omega arith)) .0

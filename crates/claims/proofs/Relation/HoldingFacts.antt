@@ -9,8 +9,7 @@ use lib.ListN.{length}
 use lib.Dec.{eqb, leb}
 use borrow.Author.Tests.{eqb-true, ne-eqb, leb-false}
 use Rattle.model.specs.Lists.{bit, count, any, keep}
-use Rattle.model.specs.Clock.{cycle}
-use Rattle.model.specs.Table.{Line, Table}
+use Rattle.model.specs.Table.{Line, Table, cycleIn}
 use Rattle.model.specs.Rules.{Holding, holdings, Counts, heldBy, numbered, shareOf, limitOf, reserve, full}
 use Rattle.model.specs.Sound.{Sound, Fits, nonZeroNumber, validLease, live, validName, sameQuestion}
 use Rattle.model.proofs.ListLaws.{bit-le, and-right, or-left, or-right, eqb-sym, count-any, count-keep, count-mono, count-split, hits, total, total-le}
@@ -57,9 +56,10 @@ listed-once t y r = rw (r .roster) at (r .sound .listedOnce)
 
 -- A CHANGED TABLE u AND TALLY w: what is left to show
 pub record Changed (u : Table) (y w : Tally) : Type 0 where
+  pub cycle : cycleIn u ≡ w .cycle
   pub place : u .clock .place ≡ w .place
   pub running : u .clock .running ≡ w .running
-  pub placeLess : u .clock .place < cycle
+  pub placeLess : u .clock .place < cycleIn u
   pub n : w .n ≡ y .n
   pub roster : w .roster ≡ y .roster
   pub entries : (p : Holding → Bool) → count (holdings u) p ≡ count (w .holdings) p
@@ -71,6 +71,7 @@ related-next t u y w r len ro c =
     let s = r .sound in
     let f : HoldingFacts (length (t .slots)) (t .roster) (count (holdings u)) = rw (r .n, r .roster, fun-ext (c .entries)) (c .facts) in
     record {
+      cycle = c .cycle;
       place = c .place;
       running = c .running;
       n = len ∙ r .n ∙ sym (c .n);

@@ -123,6 +123,7 @@ module _ (s : Sender) (r : ℕ) (q : Question) (o : LlqOption) (t : Table) (y : 
         related-next t (withSlot t (indexOf isFree (t .slots)) (held e)) y (withHoldings y after) rel
         (length-set (t .slots) (indexOf isFree (t .slots)) (held e)) refl
         (record {
+          cycle = rel .cycle;
           place = rel .place;
           running = rel .running;
           placeLess = rel .sound .place;

@@ -106,7 +106,7 @@ unfolding outcomeOf
 outcome-range c t i b f =
     option-range (c .sender) (c .random) (question (c .datagram) i) (llqOption (c .datagram) i) (tableBefore c t i) f (fits-option (c .datagram) _ b .number)
 
-module _ (c : ServeCall) (b lent : List ℕ) (range : ServeInRange c) (p : QueryAccepted c) (room : c .room ≡ length lent)
+module _ (c : ServeCall) (b lent : List ℕ) (range : ServeInRange c) (p : QueryAccepted (readTable b .layout .weeks) c) (room : c .room ≡ length lent)
     (fits : (i : ℕ) → i < qdcount (c .datagram) → Fits (tableBefore c (readTable b) i)) where
   low-end : 12 ≤ questionsEnd (c .datagram)
   low-end = start-min (c .datagram) (qdcount (c .datagram))

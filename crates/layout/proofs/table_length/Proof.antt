@@ -1,5 +1,4 @@
 -- `layout::table_length` meets its contract. Assumes nothing.
-use native.Mathlib.Omega.{arith}
 use borrow.Author.Tests.{le-leb, lt-leb}
 use Rattle.model.specs.Calls.{tableLength}
 use borrow.Author.Needs.{needs}
@@ -10,11 +9,14 @@ use Rattle.layout.proofs.table_length.Lts as lts
 
 returns : tie.Need-returns
 unfolding tableLength
-returns c = rw (← (c .before .pre), lt-leb 1 (c .before .args .n) (c .if1 .taken))
+returns c = let l = c .before .before .args .l in rw (← (c .before .before .pre .3), lt-leb 1 (l .n) (c .if1 .taken))
 
 returns-2 : tie.Need-returns-2
 unfolding tableLength
-returns-2 c = rw (← (c .before .before .pre), le-leb 1 (c .before .before .args .n) (c .before .if1 .left), lt-leb (c .before .before .args .n) 64 (c .if2 .taken))
+returns-2 c =
+    let at = c .before .before .before .before in
+    let l = at .args .l in
+    rw (← (at .pre .3), le-leb 1 (l .n) (c .before .before .if1 .left), lt-leb (l .n) 64 (c .if2 .taken))
 
 mul-result : tie.Need-mul-result
 mul-result c = search needs
@@ -24,7 +26,10 @@ add-result c = search needs
 
 returns-3 : tie.Need-returns-3
 unfolding tableLength
-returns-3 c = rw (← (c .before .before .pre), le-leb 1 (c .before .before .args .n) (c .before .if1 .left), le-leb (c .before .before .args .n) 64 (c .if2 .left))
+returns-3 c =
+    let at = c .before .before .before .before .before .before in
+    let l = at .args .l in
+    rw (← (at .pre .3), le-leb 1 (l .n) (c .before .before .before .before .if1 .left), le-leb (l .n) 64 (c .before .before .if2 .left), ← (at .pre .2))
 
 pub table-length-spec : {M : Type 1} → statement M
 table-length-spec = tie.close (tie.spec returns returns-2 mul-result add-result returns-3)

@@ -8,18 +8,21 @@ use denote.Ref.{now}
 use mathlib.Core.Bool.{true}
 use borrow.Author.Tests.{not-true, not-false}
 use Rattle.model.specs.Clock.{validReading}
+use lib.ListN.{length}
+use Rattle.model.specs.Table.{layoutOf}
 use Rattle.model.specs.Sound.{soundBytes}
+use Rattle.layout.specs.Places.{layoutIn}
 use Rattle.query.specs.Whole.{queryRefusal}
 use Rattle.llq.proofs.LadderLaws as ladder
 use Rattle.llq.proofs.FoundLaws.{measures}
 use Rattle.model.proofs.Meaning.{bytes-back as sound-formed}
 use Rattle.table.proofs.WriteLaws.{formed-written}
-use Rattle.llq.proofs.AnswerLaws.{sound-place, sound-live, answers-mismatched, serve-answered}
+use Rattle.llq.proofs.AnswerLaws.{reading-tested, reading-place, sound-place, sound-live, answers-mismatched, serve-answered}
 use Rattle.llq.proofs.ReplyLaws.{length-mismatched}
 
 -- the tests that have passed: the table and the reading
-started : (c : tie.Else2) → (soundBytes (c .before .before .before .before .before .before .before .before .before .args .t .now) ≡ true) × (validReading (c .before .before .before .before .before .before .before .before .before .args .week) (c .before .before .before .before .before .before .before .before .before .args .second) ≡ true)
-started c = (sym (c .before .before .before .sound .ensures) ∙ not-false _ (c .before .before .if1 .left), sym (c .before .valid .ensures) ∙ not-false _ (c .if2 .left))
+started : (c : tie.Else2) → (soundBytes (c .before .before .before .before .before .before .before .before .before .args .t .now) ≡ true) × (validReading (layoutOf (length (c .before .before .before .before .before .before .before .before .before .args .t .now)) .weeks) (c .before .before .before .before .before .before .before .before .before .args .week) (c .before .before .before .before .before .before .before .before .before .args .second) ≡ true)
+started c = (sym (c .before .before .before .sound .ensures) ∙ not-false _ (c .before .before .if1 .left), reading-tested (length (c .before .before .before .before .before .before .before .before .before .args .t .now)) (c .before .before .before .before .before .before .before .before .before .args .week) (c .before .before .before .before .before .before .before .before .before .args .second) (c .before .before .before .before .before .of .ensures .0) (c .before .valid .ensures) (not-false _ (c .if2 .left)))
 
 -- and the datagram
 parsed : (c : tie.Else3) → queryRefusal (now (c .before .before .before .before .before .before .before .before .before .before .before .args .datagram)) ≡ 0
@@ -52,7 +55,7 @@ same-length-2 c = search needs
 returns-2 : tie.Need-returns-2
 returns-2 c =
     let e = sym (c .before .before .before .before .sound .ensures) ∙ not-false _ (c .before .before .before .if1 .left) in
-    rw (c .refuse2 .ensures) (ladder.serve-reading _ _ _ e (sym (c .before .before .valid .ensures) ∙ not-true _ (c .before .if2 .taken)))
+    rw (c .refuse2 .ensures) (ladder.serve-reading _ _ _ e (reading-tested (length (c .before .before .before .before .before .before .before .before .before .before .args .t .now)) (c .before .before .before .before .before .before .before .before .before .before .args .week) (c .before .before .before .before .before .before .before .before .before .before .args .second) (c .before .before .before .before .before .before .of .ensures .0) (c .before .before .valid .ensures) (not-true _ (c .before .if2 .taken))))
 
 parse-requires : tie.Need-parse-requires
 parse-requires c κs = search needs
@@ -98,12 +101,19 @@ returns-5 c =
     rw (c .refuse5 .ensures) (ladder.serve-room _ _ _ (p .0) (p .1) (parsed r) long)
 
 place-requires : tie.Need-place-requires
-place-requires c κs = started (c .before .before .before .before .before .before .before) .1
+place-requires c κs = search needs
 
 move-on-requires : tie.Need-move-on-requires
 move-on-requires c κs =
     let b = c .before .before .before .before .before .before .before .before .before .before .before .before .before .before .before .before .before .args .t .now in
-    let e = started (c .before .before .before .before .before .before .before .before) .0 in (sound-formed b e, c .before .before .before .before .before .before .before .before .before .before .before .before .before .of .ensures, sound-place b e, c .place .ensures .1, sound-live b e)
+    let e = started (c .before .before .before .before .before .before .before .before) .0 in
+    let o = c .before .before .before .before .before .before .before .before .before .before .before .before .before .of in (
+      sound-formed b e,
+      o .ensures,
+      sound-place b (o .ensures .0) e,
+      reading-place (layoutIn (o .result)) _ _ (c .before .before .before .before .before .before .before .before .before .valid .ensures) (not-false _ (c .before .before .before .before .before .before .before .before .if2 .left)) (c .place .ensures),
+      sound-live b e,
+    )
 
 answer-mismatch-requires : tie.Need-answer-mismatch-requires
 answer-mismatch-requires c κs =
@@ -136,7 +146,7 @@ returns-6 c =
     let room = ladder.has-room _ _ _ len (w .before .before .before .before .before .before .before .if4 .left) (w .before .before .before .before .before .before .if5 .left) in
     let moved = w .before .before .before .move-on .ensures .0 in
     rw (c .answered .ensures)
-    (serve-answered _ _ _ _ _ _ _ _ (p .0) (p .1) (parsed r) room len (w .before .before .before .before .place .ensures .0) moved
+    (serve-answered _ _ _ _ _ _ _ _ (p .0) (p .1) (parsed r) room len (w .before .before .before .before .place .ensures) moved
     (answers-mismatched _ _ d _ _ _ _ _ (measures d _ h) (h .matched) (omega (arith, len, w .before .before .before .before .before .before .before .if4 .left)) _ (not-true _ (c .before .before .before .before .before .before .if6 .taken)) (formed-written moved) (c .before .before .before .answer-mismatch .ensures)))
 
 answer-requires : tie.Need-answer-requires
@@ -165,7 +175,7 @@ returns-7 c =
     let p = started (r .before .before) in
     let room = ladder.has-room _ _ _ len (w .before .before .before .before .before .before .before .if4 .left) (w .before .before .before .before .before .before .if5 .left) in
     rw (c .answered2 .ensures)
-    (serve-answered _ _ _ _ _ _ _ _ (p .0) (p .1) (parsed r) room len (w .before .before .before .before .place .ensures .0) (w .before .before .before .move-on .ensures .0) (c .before .before .before .before .before .answer .ensures))
+    (serve-answered _ _ _ _ _ _ _ _ (p .0) (p .1) (parsed r) room len (w .before .before .before .before .place .ensures) (w .before .before .before .move-on .ensures .0) (c .before .before .before .before .before .answer .ensures))
 
 pub llq-serve-spec : {M : Type 1} → statement M
 llq-serve-spec =

@@ -18,7 +18,7 @@ use Rattle.options.proofs.grant.Reads as reads
 use Rattle.options.proofs.grant.Lts as lts
 use Rattle.entries.proofs.find_free.Reads as find-free-reads
 use Rattle.entries.proofs.fresh_number.Reads as fresh-number-reads
-use Rattle.octets.proofs.get32.Reads as get32-reads
+use Rattle.record.proofs.running_count.Reads as running-count-reads
 use Rattle.options.proofs.granted_lease.Reads as granted-lease-reads
 use Rattle.options.proofs.served.Reads as served-reads
 use Rattle.table.proofs.put_entry.Reads as put-entry-reads
@@ -61,10 +61,10 @@ returns c =
     let z = c .before .before .before .before .before .before .before .before .before .before .before in
     let a = z .args in
     let bytes : Bytes (a .t .now) = λ j. omega (arith, c .before .before .before .before .before .before .before .before .before .before .slice-known .given j) in
-    law.grant-none (a .t .now) bytes (z .pre .0) (a .l .n) (z .pre .2) (a .s) (a .r) (questionOf (a .d .now) (a .q)) (a .o) (rw (tail-is (a .t .now) (z .pre .1 .1)) at (c .before .before .before .before .before .before .fresh-number .ensures)) (c .before .before .before .before .before .granted-lease .ensures) (rw (tail-is (a .t .now) (z .pre .1 .1)) at (c .before .before .find-free .ensures)) (c .before .if1 .taken) _ (c .served .ensures)
+    law.grant-none (a .t .now) bytes (z .pre .0) (a .l .n) (z .pre .2) (a .s) (a .r) (questionOf (a .d .now) (a .q)) (a .o) (rw (tail-is (a .t .now) (z .pre .1 .2)) at (c .before .before .before .before .before .before .fresh-number .ensures)) (c .before .before .before .before .before .granted-lease .ensures) (rw (tail-is (a .t .now) (z .pre .1 .2)) at (c .before .before .find-free .ensures)) (c .before .if1 .taken) _ (c .served .ensures)
 
-get32-requires : tie.Need-get32-requires
-get32-requires c κs = search needs
+running-count-requires : tie.Need-running-count-requires
+running-count-requires c κs = search needs
 
 cast-t27 : tie.Need-cast-t27
 cast-t27 c = search needs
@@ -97,7 +97,7 @@ returns-2 c =
     let bytes : Bytes (a .t .now) = λ j. omega (arith, c .before .before .before .before .before .before .before .before .before .before .before .before .before .before .before .before .before .before .slice-known .given j) in
     let w = part (a .q .start) (a .q .len) (a .d .now) in
     let n : length (map fold w) ≡ a .q .len = folded-length (a .d .now) (a .q .start) (a .q .len) (z .pre .3) in
-    law.grant-written (a .t .now) bytes (z .pre .0) (a .l .n) (z .pre .2) (a .s) (a .r) (questionOf (a .d .now) (a .q)) (a .o) (rw (tail-is (a .t .now) (z .pre .1 .1)) at (c .before .before .before .before .before .before .before .before .before .before .before .before .before .before .fresh-number .ensures)) (c .before .before .before .before .before .before .before .before .before .before .before .before .before .granted-lease .ensures) (rw (tail-is (a .t .now) (z .pre .1 .1)) at (c .before .before .before .before .before .before .before .before .before .before .find-free .ensures)) _ _ (c .before .before .before .before .before .before .before .get32 .ensures) (c .before .before .before .before .before .before .before .before .before .if1 .left)
+    law.grant-written (a .t .now) bytes (z .pre .0) (a .l .n) (z .pre .2) (a .s) (a .r) (questionOf (a .d .now) (a .q)) (a .o) (rw (tail-is (a .t .now) (z .pre .1 .2)) at (c .before .before .before .before .before .before .before .before .before .before .before .before .before .before .fresh-number .ensures)) (c .before .before .before .before .before .before .before .before .before .before .before .before .before .granted-lease .ensures) (rw (tail-is (a .t .now) (z .pre .1 .2)) at (c .before .before .before .before .before .before .before .before .before .before .find-free .ensures)) _ _ (c .before .before .before .before .before .before .before .running-count .ensures) (c .before .before .before .before .before .before .before .before .before .if1 .left)
     (record {
       address = law.address-fits (a .s .high) (a .s .low) (omega (arith, z)) (omega (arith, z));
       port = omega (arith, z);
@@ -109,7 +109,7 @@ returns-2 c =
       size = omega (arith, n, z .pre .4);
       bytes = bytes-fold w (bytes-part (a .q .start) (a .q .len) (a .d .now) (λ j. omega (arith, c .before .before .before .before .before .before .before .before .before .before .before .before .before .before .before .before .before .shared-slice-known .given j)));
     })
-    _ (tail-written (a .t .now) _ 320 _ (z .pre .1 .1) (c .before .before .before .put-entry .ensures)) _ (c .served2 .ensures)
+    _ (tail-written (a .t .now) _ 320 _ (z .pre .1 .2) (c .before .before .before .put-entry .ensures)) _ (c .served2 .ensures)
 
 pub grant-spec : {M : Type 1} → statement M
 grant-spec =
@@ -127,7 +127,7 @@ grant-spec =
     served-requires
     same-length
     returns
-    get32-requires
+    running-count-requires
     cast-t27
     sub-put-entry
     part-put-entry-start

@@ -1,9 +1,9 @@
 -- `options::serve_setup` meets its contract: found, full or granted. Assumes nothing.
 use native.Mathlib.Omega.{arith}
 use mathlib.Core.Path.{refl, sym, _∙_}
-use lib.ListN.{drop}
+use lib.ListN.{length, drop}
 use Rattle.model.specs.Numbers.{Bytes}
-use Rattle.model.specs.Table.{base}
+use Rattle.model.specs.Table.{base, layoutOf}
 use Rattle.wire.specs.Records.{questionOf}
 use Rattle.layout.proofs.PartLaws.{tail-is}
 use Rattle.entries.proofs.Laws.{found-is, nothing-is}
@@ -15,7 +15,7 @@ use Rattle.options.proofs.serve_setup.Reads as reads
 use Rattle.options.proofs.serve_setup.Lts as lts
 use Rattle.entries.proofs.find_asked.Reads as find-asked-reads
 use Rattle.entries.proofs.is_full.Reads as is-full-reads
-use Rattle.octets.proofs.get32.Reads as get32-reads
+use Rattle.record.proofs.running_count.Reads as running-count-reads
 use Rattle.options.proofs.grant.Reads as grant-reads
 use Rattle.options.proofs.life_left.Reads as life-left-reads
 use Rattle.options.proofs.served.Reads as served-reads
@@ -35,8 +35,8 @@ find-asked-requires c κs = search needs
 enum-known-e : tie.Need-enum-known-e
 enum-known-e c = search needs
 
-get32-requires : tie.Need-get32-requires
-get32-requires c κs = search needs
+running-count-requires : tie.Need-running-count-requires
+running-count-requires c κs = search needs
 
 life-left-requires : tie.Need-life-left-requires
 life-left-requires c κs = search needs
@@ -79,9 +79,9 @@ returns c =
     let z = c .before .before .before .before .before .before .before .before .before .before .before .before .before in
     let a = z .args in
     let bytes : Bytes (a .t .now) = λ j. omega (arith, c .before .before .before .before .before .before .before .before .before .before .before .before .slice-known .given j) in
-    let w = rw (tail-is (a .t .now) (z .pre .1 .1)) at (c .before .before .before .before .before .before .before .before .find-asked .ensures) in
-    let f = nothing-is (drop base (a .t .now)) (a .l .n) _ (sym w ∙ c .before .before .before .before .before .before .enum-told .given .1) in
-    let v = rw (tail-is (a .t .now) (z .pre .1 .0), tail-is (a .t .now) (z .pre .1 .1)) at (c .before .before .is-full .ensures) in
+    let w = rw (tail-is (a .t .now) (z .pre .1 .2)) at (c .before .before .before .before .before .before .before .before .find-asked .ensures) in
+    let f = nothing-is (drop (base (layoutOf (length (a .t .now)))) (a .t .now)) (a .l .n) _ (sym w ∙ c .before .before .before .before .before .before .enum-told .given .1) in
+    let v = rw (tail-is (a .t .now) (z .pre .1 .1), tail-is (a .t .now) (z .pre .1 .2)) at (c .before .before .is-full .ensures) in
     law.setup-full (a .t .now) bytes (z .pre .0) (a .l .n) (z .pre .2) (a .s) (a .r) (questionOf (a .d .now) (a .q)) (a .o) refl f (sym v ∙ c .before .if1 .taken) _ (c .served2 .ensures)
 
 grant-requires : tie.Need-grant-requires
@@ -95,9 +95,9 @@ returns-2 c =
     let z = c .before .before .before .before .before .before .before .before .before .before .before .before .before in
     let a = z .args in
     let bytes : Bytes (a .t .now) = λ j. omega (arith, c .before .before .before .before .before .before .before .before .before .before .before .before .slice-known .given j) in
-    let w = rw (tail-is (a .t .now) (z .pre .1 .1)) at (c .before .before .before .before .before .before .before .before .find-asked .ensures) in
-    let f = found-is (drop base (a .t .now)) (a .l .n) _ _ _ (sym w ∙ c .before .before .before .before .before .before .e .given .1) in
-    law.setup-found (a .t .now) bytes (z .pre .0) (a .l .n) (z .pre .2) (a .s) (a .r) (questionOf (a .d .now) (a .q)) (a .o) (f .0) (f .1) _ (f .2) (c .before .before .get32 .ensures) _ (c .before .life-left .ensures) _ (c .served .ensures)
+    let w = rw (tail-is (a .t .now) (z .pre .1 .2)) at (c .before .before .before .before .before .before .before .before .find-asked .ensures) in
+    let f = found-is (drop (base (layoutOf (length (a .t .now)))) (a .t .now)) (a .l .n) _ _ _ (sym w ∙ c .before .before .before .before .before .before .e .given .1) in
+    law.setup-found (a .t .now) bytes (z .pre .0) (a .l .n) (z .pre .2) (a .s) (a .r) (questionOf (a .d .now) (a .q)) (a .o) (f .0) (f .1) _ (f .2) (c .before .before .running-count .ensures) _ (c .before .life-left .ensures) _ (c .served .ensures)
 
 same-length-3 : tie.Need-same-length-3
 same-length-3 c = search needs
@@ -107,9 +107,9 @@ returns-3 c =
     let z = c .before .before .before .before .before .before .before .before .before .before .before .before .before .before .before .before in
     let a = z .args in
     let bytes : Bytes (a .t .now) = λ j. omega (arith, c .before .before .before .before .before .before .before .before .before .before .before .before .before .before .before .slice-known .given j) in
-    let w = rw (tail-is (a .t .now) (z .pre .1 .1)) at (c .before .before .before .before .before .before .before .before .before .before .before .find-asked .ensures) in
-    let f = nothing-is (drop base (a .t .now)) (a .l .n) _ (sym w ∙ c .before .before .before .before .before .before .before .before .before .enum-told .given .1) in
-    let v = rw (tail-is (a .t .now) (z .pre .1 .0), tail-is (a .t .now) (z .pre .1 .1)) at (c .before .before .before .before .before .is-full .ensures) in
+    let w = rw (tail-is (a .t .now) (z .pre .1 .2)) at (c .before .before .before .before .before .before .before .before .before .before .before .find-asked .ensures) in
+    let f = nothing-is (drop (base (layoutOf (length (a .t .now)))) (a .t .now)) (a .l .n) _ (sym w ∙ c .before .before .before .before .before .before .before .before .before .enum-told .given .1) in
+    let v = rw (tail-is (a .t .now) (z .pre .1 .1), tail-is (a .t .now) (z .pre .1 .2)) at (c .before .before .before .before .before .is-full .ensures) in
     law.setup-grant (a .t .now) bytes (z .pre .0) (a .l .n) (z .pre .2) (a .s) (a .r) (questionOf (a .d .now) (a .q)) (a .o) refl f (sym v ∙ c .before .before .before .before .if1 .left) _ _ (c .before .before .grant .ensures)
 
 pub serve-setup-spec : {M : Type 1} → statement M
@@ -121,7 +121,7 @@ serve-setup-spec =
     part-find-asked-end
     find-asked-requires
     enum-known-e
-    get32-requires
+    running-count-requires
     life-left-requires
     served-requires
     enum-told

@@ -1,0 +1,19 @@
+-- What a table's length says of its clock and its slots, in numbers written out, apart from the model's layouts (document 02, Ticket 7): 313 + 320n
+-- bytes have weeks of ten bits, 317 + 320n weeks of thirteen. Assumes nothing.
+use Prim.Native.Nat.{ℕ, _+_, _-_, _/_, _%_}
+use mathlib.Core.Bool.{Bool, cond}
+use lib.Dec.{eqb}
+
+abbrev pub isWide : ℕ → Bool
+isWide size = eqb ((size + 3) % 320) 0
+
+-- the seconds of the clock's cycle, and the largest week
+abbrev pub cycleFor : ℕ → ℕ
+cycleFor size = cond (isWide size) 4954521600 619315200
+
+abbrev pub lastWeek : ℕ → ℕ
+lastWeek size = cond (isWide size) 8191 1023
+
+-- n, of both lengths
+abbrev pub slotsFor : ℕ → ℕ
+slotsFor size = (size - 313) / 320
