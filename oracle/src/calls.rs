@@ -1,6 +1,6 @@
 //! The three calls. Each judges everything before it writes its first byte.
 
-use crate::clock::{self, Clock};
+use crate::clock::Clock;
 use crate::fault::{self, Fault};
 use crate::query::{Query, Sender, LONGEST_DATAGRAM};
 use crate::rules::{Law, Rules};
@@ -79,7 +79,7 @@ pub fn serve_by<R: Rules>(
 /// Writes the reading's place, running count 0, the roster in the order given, free slots.
 fn made<R: Rules>(week: u32, second: u32, table: &mut [u8], roster: &[u8]) -> Result<(), u32> {
     let mut table = Table::new(table).ok_or(fault::UNSOUND)?;
-    let place = clock::place(week, second).ok_or(fault::READING)?;
+    let place = R::place(table.weeks, week, second).ok_or(fault::READING)?;
     let (lines, rest) = roster.as_chunks();
     if R::faulty(Fault::RosterLength, !rest.is_empty())
         || R::faulty(Fault::RosterKind, lines.iter().any(|line| line[0] != LISTED))
@@ -89,7 +89,8 @@ fn made<R: Rules>(week: u32, second: u32, table: &mut [u8], roster: &[u8]) -> Re
         return Err(fault::ROSTER);
     }
 
-    table.set_clock(Clock { place, count: 0 });
+    table.clock[0] = R::clock_kind(table.weeks);
+    table.set_clock(Clock { weeks: table.weeks, place, count: 0 });
     for (at, line) in table.roster.iter_mut().enumerate() {
         *line = lines.get(at).copied().unwrap_or(UNUSED_LINE);
     }
@@ -99,7 +100,7 @@ fn made<R: Rules>(week: u32, second: u32, table: &mut [u8], roster: &[u8]) -> Re
 
 fn ticked<R: Rules>(week: u32, second: u32, table: &mut [u8]) -> Result<u32, u32> {
     let mut table = sound_table::<R>(table)?;
-    let place = clock::place(week, second).ok_or(fault::READING)?;
+    let place = R::place(table.weeks, week, second).ok_or(fault::READING)?;
     Ok(move_on::<R>(&mut table, place))
 }
 
@@ -113,7 +114,7 @@ fn served<R: Rules>(
     reply: &mut [u8],
 ) -> Result<usize, u32> {
     let mut table = sound_table::<R>(table)?;
-    let place = clock::place(week, second).ok_or(fault::READING)?;
+    let place = R::place(table.weeks, week, second).ok_or(fault::READING)?;
     let query = Query::read::<R>(datagram)?;
     let length = query.reply_length();
     if length > reply.len() || R::faulty(Fault::ReplyOver1472, length > LONGEST_DATAGRAM) {
@@ -139,7 +140,7 @@ fn sound_table<R: Rules>(bytes: &mut [u8]) -> Result<Table<'_>, u32> {
 }
 
 /// The clock moves, then run-out entries are freed; how many these were.
-fn move_on<R: Rules>(table: &mut Table, place: u32) -> u32 {
+fn move_on<R: Rules>(table: &mut Table, place: u64) -> u32 {
     let clock = R::moved(table.clock(), place);
     table.set_clock(clock);
     let mut freed = 0;
@@ -158,6 +159,8 @@ mod tests {
     use crate::query::{flag, MOST_QUESTIONS};
 
     const SLOTS_4: usize = 313 + 4 * 320;
+    /// With weeks of thirteen bits.
+    const WIDE_SLOTS_4: usize = 317 + 4 * 320;
 
     fn listed(address: u8, share: u8, limit: u8) -> Vec<u8> {
         let mut line = vec![3; 19];
@@ -200,6 +203,84 @@ mod tests {
     }
 
     #[test]
+    fn wide_makings() {
+        let mut table = vec![0xAA; 317 + 320];
+        let roster = [listed(1, 1, 3), listed(2, 0, 64)].concat();
+        assert_eq!(make(8_191, 604_799, &mut table, &roster), 0);
+        assert_eq!(table[..13], [9, 0, 0, 0, 1, 0x27, 0x4F, 0xFF, 0xFF, 0, 0, 0, 0]);
+        assert_eq!(table[13..32], listed(1, 1, 3));
+        assert_eq!(table[32..51], listed(2, 0, 64));
+        assert_eq!(table[51..70], UNUSED_LINE);
+        assert_eq!(table[317], 4);
+        assert!(table[318..].iter().all(|&byte| byte == 0));
+        assert_eq!(tick(0, 0, &mut table), Ticked { number: 0, freed: 0 });
+        assert_eq!(table[..13], [9, 0, 0, 0, 0, 0, 0, 0, 0, 0, 0, 0, 1]);
+        // Made again, its length is the same, and so are its weeks.
+        assert_eq!(make(8_192, 0, &mut table, &[]), 2);
+        assert_eq!(make(1_024, 0, &mut table, &[]), 0);
+        assert_eq!(table[..13], [9, 0, 0, 0, 0, 0x24, 0xEA, 0, 0, 0, 0, 0, 0]);
+    }
+
+    /// The length alone says which weeks are read, and a week is never taken modulo 1,024.
+    #[test]
+    fn refused_weeks_by_the_table_s_length() {
+        for (length, weeks) in [(SLOTS_4, 1_024), (WIDE_SLOTS_4, 8_192)] {
+            let mut table = vec![0; length];
+            assert_eq!(make(0, 0, &mut table, &[]), 0);
+            let query = setups(&[b"\x01a\x00"], 60);
+            for week in [0, 1, 1_022, 1_023, 1_024, 1_025, 2_048, 8_191, 8_192, 8_193, u32::MAX] {
+                let number = if week < weeks { 0 } else { 2 };
+                let mut lent = table.clone();
+                assert_eq!(tick(week, 0, &mut lent), Ticked { number, freed: 0 });
+                assert_eq!(tick(week, 604_800, &mut lent).number, 2);
+                let mut lent = table.clone();
+                let mut reply = [0; 52];
+                let served = serve(week, 0, 0, 1, 9, 7, &query, &mut lent, &mut reply);
+                assert_eq!(served.number, number, "{week}");
+                assert_eq!(lent == table, number == 2);
+                assert_eq!(make(week, 0, &mut lent, &[]), number);
+            }
+            // Unsound, it is refused with 1 whatever the reading.
+            table[0] ^= 8;
+            for week in [0, 1_024, 8_192] {
+                assert_eq!(tick(week, 0, &mut table.clone()).number, 1);
+            }
+        }
+    }
+
+    /// An entry ends by a step that 31 bits do not hold, and by no step back.
+    #[test]
+    fn wide_ticks_free_run_out_entries() {
+        let mut table = vec![0; WIDE_SLOTS_4];
+        make(8_191, 604_790, &mut table, &[]);
+        let mut reply = [0; 200];
+        let setup = |week, second, table: &mut [u8], reply: &mut [u8]| {
+            let served =
+                serve(week, second, 0, 1, 9, 7, &setups(&[b"\x01a\x00"], 60), table, reply);
+            assert_eq!(served.number, 0);
+        };
+        setup(8_191, 604_790, &mut table, &mut reply);
+        assert_eq!(table[317], 5);
+        for (week, second, freed) in [
+            (0, 49, 0),
+            // Back by 60 and by 61; on from there.
+            (8_191, 604_789, 0),
+            (8_191, 604_788, 0),
+            (8_191, 604_789, 1),
+        ] {
+            assert_eq!(tick(week, second, &mut table), Ticked { number: 0, freed });
+        }
+        assert_eq!(table[..9], [9, 0, 0, 0, 1, 0x27, 0x4F, 0xFF, 0xF5]);
+        assert_eq!(table[9..13], 60u32.to_be_bytes());
+        // Half a cycle is a step back; a second less is the longest one on, over 2^31.
+        setup(8_191, 604_789, &mut table, &mut reply);
+        assert_eq!(tick(4_095, 604_789, &mut table), Ticked { number: 0, freed: 0 });
+        assert_eq!(table[9..13], 60u32.to_be_bytes());
+        assert_eq!(tick(8_191, 604_788, &mut table), Ticked { number: 0, freed: 1 });
+        assert_eq!(table[9..13], (60 + 2_477_260_799u32).to_be_bytes());
+    }
+
+    #[test]
     fn refused_makings_keep_every_byte() {
         let mut sixteen = Vec::new();
         for address in 0..16 {
@@ -214,6 +295,17 @@ mod tests {
             (SLOTS_4 - 1, 1_024, 604_800, seventeen.clone(), 1),
             (313, 0, 0, vec![], 1),
             (313 + 65 * 320, 0, 0, vec![], 1),
+            (317, 0, 0, vec![], 1),
+            (317 + 65 * 320, 0, 0, vec![], 1),
+            (WIDE_SLOTS_4 - 1, 8_192, 604_800, seventeen.clone(), 1),
+            (WIDE_SLOTS_4 + 1, 8_192, 604_800, seventeen.clone(), 1),
+            (WIDE_SLOTS_4, 8_192, 0, seventeen.clone(), 2),
+            (WIDE_SLOTS_4, 0, 604_800, vec![], 2),
+            (WIDE_SLOTS_4, 8_191, 0, seventeen.clone(), 9),
+            (WIDE_SLOTS_4, 8_191, 0, listed(1, 4, 4), 0),
+            (WIDE_SLOTS_4, 8_191, 0, listed(1, 5, 5), 9),
+            (SLOTS_4, 8_191, 0, vec![], 2),
+            (SLOTS_4, 8_192, 0, vec![], 2),
             (SLOTS_4, 1_024, 0, seventeen.clone(), 2),
             (SLOTS_4, 0, 604_800, vec![], 2),
             (SLOTS_4, 0, 0, seventeen, 9),
@@ -266,7 +358,7 @@ mod tests {
             let mut lent = table.clone();
             assert_eq!(tick(week, second, &mut lent), Ticked { number: 0, freed: 0 });
             let mut expected = table.clone();
-            let kept = next.0 * clock::WEEK + next.1 - 1;
+            let kept: u32 = next.0 * 604_800 + next.1 - 1;
             expected[1..5].copy_from_slice(&kept.to_be_bytes());
             assert_eq!(lent, expected, "{week} {second}");
             assert_eq!(tick(next.0, next.1, &mut lent), Ticked { number: 0, freed: 1 });

@@ -3,12 +3,13 @@
 //! three are compared: numbers, lengths, freed counts, every byte of tables and
 //! replies, the bytes around the buffers, and the table's content with the tally.
 
-use crate::clock;
+use crate::clock::Weeks;
 use crate::coverage::{Coverage, Mark};
 use crate::random::Random;
 use crate::script::{self, Datagram, Step};
 use crate::server::Server;
 use crate::set_back::SetBack;
+use crate::table;
 use crate::tally::{self, Answer, Case, Tally};
 use crate::told::ToldLeases;
 
@@ -162,12 +163,16 @@ impl<'a> Run<'a> {
         self.compare_with_tally(number, &answer, &before)?;
 
         self.coverage.makings[number as usize] += 1;
+        self.mark_refused(number, week, second, &before);
         if let (0, Some(tally)) = (number, &self.tally) {
             self.by_calls = true;
             self.set_back = SetBack::default();
+            let wide = tally.weeks == 8_192;
             self.coverage.mark(Mark::MadeOverEntries, entries > 0);
-            self.coverage.mark(Mark::OneSlot, tally.slots == 1);
-            self.coverage.mark(Mark::SixtyFourSlots, tally.slots == 64);
+            self.coverage.mark(Mark::OneSlot, !wide && tally.slots == 1);
+            self.coverage.mark(Mark::WideOneSlot, wide && tally.slots == 1);
+            self.coverage.mark(Mark::SixtyFourSlots, !wide && tally.slots == 64);
+            self.coverage.mark(Mark::WideSixtyFourSlots, wide && tally.slots == 64);
             self.coverage.mark(Mark::SixteenLines, tally.roster.len() == 16);
         }
         Ok(())
@@ -185,6 +190,7 @@ impl<'a> Run<'a> {
         self.compare_with_tally(ticked.number, &answer, &before)?;
 
         self.coverage.ticks[ticked.number as usize] += 1;
+        self.mark_refused(ticked.number, week, second, &before);
         self.mark_clock(known.as_ref(), ticked.number, week, second);
         Ok(())
     }
@@ -246,6 +252,7 @@ impl<'a> Run<'a> {
 
         self.coverage.datagrams[served.number as usize] += 1;
         answer.cases.iter().for_each(|&case| self.coverage.case(case));
+        self.mark_refused(served.number, sent.week, sent.second, &before);
         self.mark_clock(known.as_ref(), served.number, sent.week, sent.second);
         self.mark_datagram(known, sent, &answer);
         Ok(())
@@ -272,17 +279,39 @@ impl<'a> Run<'a> {
         same("table's clock, n, roster and entries by the tally", seen, tally)
     }
 
+    /// A reading or a clock record that the table's length refuses, where all else is right.
+    fn mark_refused(&mut self, number: u32, week: u32, second: u32, table: &[u8]) {
+        let Some((weeks, _)) = table::shape_of(table.len()) else {
+            return;
+        };
+        let week = if number == 2 && second < 604_800 { week } else { 0 };
+        let other_kind = number == 1 && is_sound_but_for_kind(table);
+        let coverage = &mut self.coverage;
+        match weeks {
+            Weeks::Ten => {
+                coverage.mark(Mark::Week1024Refused, (1_024..8_192).contains(&week));
+                coverage.mark(Mark::Kind9Refused, other_kind);
+            }
+            Weeks::Thirteen => {
+                coverage.mark(Mark::WideWeek8192Refused, week == 8_192);
+                coverage.mark(Mark::WideKind1Refused, other_kind);
+            }
+        }
+    }
+
     fn mark_clock(&mut self, known: Option<&Tally>, number: u32, week: u32, second: u32) {
         self.coverage.mark(Mark::Unsound, number == 1);
         let (Some(before), Some(after), 0) = (known, &self.tally, number) else {
             return;
         };
-        let place = clock::place(week, second).expect("answered, so a reading");
-        let last = before.place as u32;
-        let step = clock::step(last, place);
+        let (weeks, _) = table::shape_of(self.right_table.len()).expect("answered, so a table");
+        let place = weeks.place(week, second).expect("answered, so a reading");
+        let last = before.place as u64;
+        let step = weeks.step(last, place);
         let on = step.max(0) as u64;
         let held = !before.holdings.is_empty();
         let back_over_end = held && step < 0 && place > last;
+        let rolled_over = step >= 0 && place < last;
         let wrapped = before.count + on > 4_294_967_295;
         let live = |tally: &Tally, number| tally.holdings.iter().any(|h| h.number == number);
         let freed: Vec<_> = before.holdings.iter().filter(|h| h.age + on >= h.lease).collect();
@@ -290,21 +319,44 @@ impl<'a> Run<'a> {
         let one_left = after.holdings.iter().any(|h| h.age + 1 == h.lease);
         let coverage = &mut self.coverage;
         coverage.mark(Mark::StepZero, step == 0);
-        coverage.mark(Mark::StepLongest, step == 309_657_599);
         coverage.mark(Mark::StepBackUnder60, held && (-59..0).contains(&step));
-        coverage.mark(Mark::StepBack60, held && step == -60);
-        coverage.mark(Mark::StepBack61, held && step == -61);
-        coverage.mark(Mark::StepBackOver61, held && (-309_657_599..-61).contains(&step));
-        coverage.mark(Mark::StepBackHalfCycle, held && step == -309_657_600);
-        coverage.mark(Mark::StepBack60OverCycleEnd, back_over_end && step == -60);
-        coverage.mark(Mark::StepBack61OverCycleEnd, back_over_end && step == -61);
-        coverage.mark(Mark::CycleRolledOver, step >= 0 && place < last);
         coverage.mark(Mark::CountWrapped, wrapped);
         coverage.mark(Mark::CountWrappedByCalls, wrapped && across && self.by_calls);
-        coverage.mark(Mark::LiveAcrossWrap, wrapped && across);
         coverage.mark(Mark::OneSecondLeft, one_left);
         coverage.mark(Mark::SeveralFreed, freed.len() > 1);
         coverage.mark(Mark::PendingFreed, freed.iter().any(|h| !h.established));
+        match weeks {
+            Weeks::Ten => {
+                coverage.mark(Mark::StepLongest, step == 309_657_599);
+                coverage.mark(Mark::StepBack60, held && step == -60);
+                coverage.mark(Mark::StepBack61, held && step == -61);
+                coverage.mark(Mark::StepBackOver61, held && (-309_657_599..-61).contains(&step));
+                coverage.mark(Mark::StepBackHalfCycle, held && step == -309_657_600);
+                coverage.mark(Mark::StepBack60OverCycleEnd, back_over_end && step == -60);
+                coverage.mark(Mark::StepBack61OverCycleEnd, back_over_end && step == -61);
+                coverage.mark(Mark::CycleRolledOver, rolled_over);
+                coverage.mark(Mark::LiveAcrossWrap, wrapped && across);
+            }
+            Weeks::Thirteen => {
+                let over_31_bits = step >= 2_147_483_648;
+                let back_over_31_bits = (-2_477_260_799..-2_147_483_648).contains(&step);
+                let last_week = last / 604_800;
+                let to_1024 = step >= 0 && (last_week, week) == (1_023, 1_024);
+                coverage.mark(Mark::WideStepLongest, step == 2_477_260_799);
+                coverage.mark(Mark::WideStepOver31Bits, over_31_bits);
+                coverage.mark(Mark::WideRanOutOver31Bits, over_31_bits && !freed.is_empty());
+                coverage.mark(Mark::WideStepBack60, held && step == -60);
+                coverage.mark(Mark::WideStepBack61, held && step == -61);
+                coverage.mark(Mark::WideStepBackOver31Bits, held && back_over_31_bits);
+                coverage.mark(Mark::WideStepBackHalfCycle, held && step == -2_477_260_800);
+                coverage.mark(Mark::WideStepBack60OverCycleEnd, back_over_end && step == -60);
+                coverage.mark(Mark::WideStepBack61OverCycleEnd, back_over_end && step == -61);
+                let to_0 = rolled_over && (last_week, week) == (8_191, 0);
+                coverage.mark(Mark::WideCycleRolledOver, to_0);
+                coverage.mark(Mark::WideWeek1023To1024, to_1024);
+                coverage.mark(Mark::WideLiveAcrossWrap, wrapped && across);
+            }
+        }
         self.set_back.call(coverage, step, before, after);
     }
 
@@ -369,6 +421,13 @@ impl<'a> Run<'a> {
         coverage.mark(Mark::SixtyFourEntries, after.holdings.len() == 64);
         coverage.mark(Mark::AllSlotsTaken, after.holdings.len() == after.slots);
     }
+}
+
+/// The table has the clock's other kind, and with the right one it is sound.
+fn is_sound_but_for_kind(table: &[u8]) -> bool {
+    let mut other = table.to_vec();
+    other[0] ^= 0x01 ^ 0x09;
+    tally::table::read(&other).is_some()
 }
 
 /// Where a list first goes wrong, and how.
@@ -440,15 +499,19 @@ mod tests {
         }
     }
 
-    /// A setup of one question by one sender.
+    /// A setup of one question by one sender, in week 0.
     fn setup(name: &[u8]) -> Step {
+        setup_at(0, 0, name)
+    }
+
+    fn setup_at(week: u32, second: u32, name: &[u8]) -> Step {
         let mut bytes = vec![0x12, 0x34, 1, 0, 0, 1, 0, 0, 0, 0, 0, 1];
         bytes.extend(name);
         bytes.extend([0, 12, 0, 1, 0, 0, 41, 5, 0xC0, 0, 0, 0, 0, 0, 22, 0, 1, 0, 18, 0, 1, 0, 1]);
         bytes.extend([0; 14]);
         Step::Serve(Datagram {
-            week: 0,
-            second: 0,
+            week,
+            second,
             address_high: 0,
             address_low: 1,
             port: 9,
@@ -486,6 +549,128 @@ mod tests {
         assert_eq!(marks(&|_| {}), [0, 0]);
         assert_eq!(marks(&|coverage| coverage.stored = all.clone()), [1, 0]);
         assert_eq!(marks(&|coverage| coverage.compared = all.clone()), [2, 1]);
+    }
+
+    /// Of the marks on the clock and its record, those that each step reaches and no others: on a table
+    /// of one slot, of weeks of ten bits or of thirteen.
+    fn reaches(length: usize, steps: &[(Step, &[Mark])]) {
+        const OTHERS: [Mark; 7] = [
+            Mark::StepBackUnder60,
+            Mark::CountWrapped,
+            Mark::CountWrappedByCalls,
+            Mark::OneSecondLeft,
+            Mark::PendingFreed,
+            Mark::RanOutWhileSetBack,
+            Mark::AllSlotsTaken,
+        ];
+        let mut run = Run::new(&Oracle, &Oracle);
+        run.step(&Step::Buffer { length, seed: 1 }).unwrap();
+        for (step, marks) in steps {
+            run.coverage = Coverage::default();
+            assert_eq!(run.step(step), Ok(()));
+            let is_of_clock = |mark: Mark| {
+                let at = mark as usize;
+                at > Mark::StepZero as usize && at < Mark::NumberZeroPassedOver as usize
+                    || at > Mark::AllValuesCompared as usize
+                    || [Mark::OneSlot, Mark::SixtyFourSlots].contains(&mark)
+            };
+            let reached: Vec<Mark> = Mark::ALL
+                .iter()
+                .map(|&(mark, _)| mark)
+                .filter(|&mark| run.coverage.marks[mark as usize] > 0)
+                .filter(|&mark| is_of_clock(mark) && !OTHERS.contains(&mark))
+                .collect();
+            assert_eq!(reached, *marks, "{step}");
+        }
+    }
+
+    fn make(week: u32, second: u32) -> Step {
+        Step::Make { week, second, roster: vec![] }
+    }
+
+    fn tick(week: u32, second: u32) -> Step {
+        Step::Tick { week, second }
+    }
+
+    fn kind(kind: u8) -> Step {
+        Step::Edit { at: 0, bytes: vec![kind] }
+    }
+
+    #[test]
+    fn marks_of_weeks_of_ten_bits() {
+        use Mark::*;
+        reaches(
+            633,
+            &[
+                (make(1_024, 0), &[Week1024Refused]),
+                (make(8_191, 604_799), &[Week1024Refused]),
+                (make(8_192, 0), &[]),
+                (make(1_024, 604_800), &[]),
+                (make(1_023, 604_799), &[OneSlot]),
+                (tick(1_024, 0), &[Week1024Refused]),
+                (tick(0, 0), &[CycleRolledOver]),
+                (tick(512, 0), &[]),
+                (tick(0, 0), &[]),
+                (setup_at(0, 0, b"\x00"), &[]),
+                (tick(1_023, 604_740), &[StepBack60, StepBack60OverCycleEnd]),
+                (tick(1_023, 604_739), &[StepBack61, StepBack61OverCycleEnd]),
+                (tick(1_023, 604_678), &[StepBack61]),
+                (tick(1_023, 604_616), &[StepBackOver61]),
+                (tick(511, 604_616), &[StepBackHalfCycle]),
+                (tick(1_023, 604_615), &[StepLongest]),
+                (kind(9), &[]),
+                (tick(0, 0), &[Kind9Refused]),
+                (setup_at(1_024, 0, b"\x00"), &[Kind9Refused]),
+                (kind(8), &[]),
+                (tick(0, 0), &[]),
+            ],
+        );
+    }
+
+    #[test]
+    fn marks_of_weeks_of_thirteen_bits() {
+        use Mark::*;
+        reaches(
+            637,
+            &[
+                (make(8_192, 0), &[WideWeek8192Refused]),
+                (make(8_193, 0), &[]),
+                (make(8_192, 604_800), &[]),
+                (make(8_191, 604_799), &[WideOneSlot]),
+                (setup_at(8_192, 0, b"\x00"), &[WideWeek8192Refused]),
+                (tick(0, 0), &[WideCycleRolledOver]),
+                (setup_at(0, 0, b"\x00"), &[]),
+                (tick(8_191, 604_740), &[WideStepBack60, WideStepBack60OverCycleEnd]),
+                (tick(8_191, 604_739), &[WideStepBack61, WideStepBack61OverCycleEnd]),
+                (tick(8_191, 604_679), &[WideStepBack60]),
+                (tick(8_191, 604_678), &[WideStepBack61]),
+                (tick(4_095, 604_678), &[WideStepBackHalfCycle]),
+                // Back by 2^31 and by one second more.
+                (tick(545, 161_030), &[]),
+                (tick(4_095, 604_678), &[WideStepOver31Bits, WideRanOutOver31Bits]),
+                (setup_at(4_095, 604_678, b"\x00"), &[]),
+                (tick(545, 161_029), &[WideStepBackOver31Bits]),
+                // On by one second less than 2^31.
+                (tick(4_095, 604_676), &[]),
+                (tick(8_191, 604_675), &[WideStepLongest, WideStepOver31Bits]),
+                (tick(1_023, 604_799), &[]),
+                (setup_at(1_023, 604_799, b"\x00"), &[]),
+                (tick(1_024, 0), &[WideWeek1023To1024]),
+                (tick(1_023, 604_799), &[]),
+                // The week counter comes around, but not from its last week to its first.
+                (tick(7_000, 0), &[]),
+                (tick(0, 604_800), &[]),
+                (tick(1, 0), &[]),
+                (kind(1), &[]),
+                (tick(0, 0), &[WideKind1Refused]),
+                (tick(8_192, 0), &[WideKind1Refused]),
+                // The running count's last number, and an entry live across it.
+                (kind(9), &[]),
+                (Step::Edit { at: 9, bytes: vec![0xFF; 4] }, &[]),
+                (setup_at(1, 0, b"\x00"), &[]),
+                (tick(1, 1), &[WideLiveAcrossWrap]),
+            ],
+        );
     }
 
     #[test]

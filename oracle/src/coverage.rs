@@ -1,6 +1,7 @@
 //! What a run has met: how many calls gave each number, how many options each
 //! error, and the places that a run must reach to be worth its name.
 
+use crate::generate::Widths;
 use crate::tally::Case;
 use crate::values::Values;
 use std::fmt;
@@ -64,10 +65,29 @@ pub enum Mark {
     SetupBehindRefresh,
     AllValuesStored,
     AllValuesCompared,
+    Week1024Refused,
+    Kind9Refused,
+    WideStepLongest,
+    WideStepOver31Bits,
+    WideRanOutOver31Bits,
+    WideStepBack60,
+    WideStepBack61,
+    WideStepBackOver31Bits,
+    WideStepBackHalfCycle,
+    WideStepBack60OverCycleEnd,
+    WideStepBack61OverCycleEnd,
+    WideCycleRolledOver,
+    WideWeek1023To1024,
+    WideLiveAcrossWrap,
+    WideWeek8192Refused,
+    WideKind1Refused,
+    WideOneSlot,
+    WideSixtyFourSlots,
 }
 
 impl Mark {
-    pub const ALL: [(Mark, &'static str); 56] = [
+    /// What has a mark for weeks of thirteen bits too is marked above on tables for weeks of ten alone.
+    pub const ALL: [(Mark, &'static str); 74] = [
         (Mark::StepZero, "step of 0"),
         (Mark::StepLongest, "step of +309,657,599"),
         // Steps back with entries held.
@@ -132,7 +152,32 @@ impl Mark {
         // Datagrams answered once every byte value has been sent in labels.
         (Mark::AllValuesStored, "all 256 values in names stored"),
         (Mark::AllValuesCompared, "all 256 values in names compared"),
+        // Weeks of ten bits. A kind is refused on a table that is sound but for it.
+        (Mark::Week1024Refused, "10 bits: week over 1,023 refused"),
+        (Mark::Kind9Refused, "10 bits: kind 0x09 refused"),
+        // Weeks of thirteen bits. Steps back are with entries held.
+        (Mark::WideStepLongest, "13 bits: step of +2,477,260,799"),
+        (Mark::WideStepOver31Bits, "13 bits: step of 2^31 or more"),
+        (Mark::WideRanOutOver31Bits, "13 bits: entry run out by such"),
+        (Mark::WideStepBack60, "13 bits: step of -60"),
+        (Mark::WideStepBack61, "13 bits: step of -61"),
+        (Mark::WideStepBackOver31Bits, "13 bits: step under -2^31"),
+        (Mark::WideStepBackHalfCycle, "13 bits: step of -2,477,260,800"),
+        (Mark::WideStepBack60OverCycleEnd, "13 bits: -60 over the cycle's end"),
+        (Mark::WideStepBack61OverCycleEnd, "13 bits: -61 over the cycle's end"),
+        (Mark::WideCycleRolledOver, "13 bits: week 8,191 to week 0"),
+        (Mark::WideWeek1023To1024, "13 bits: week 1,023 to week 1,024"),
+        (Mark::WideLiveAcrossWrap, "13 bits: live across the wrap"),
+        (Mark::WideWeek8192Refused, "13 bits: week 8,192 refused"),
+        (Mark::WideKind1Refused, "13 bits: kind 0x01 refused"),
+        (Mark::WideOneSlot, "13 bits: n = 1"),
+        (Mark::WideSixtyFourSlots, "13 bits: n = 64"),
     ];
+
+    /// A place that lists on tables with weeks of ten bits cannot reach.
+    fn is_wide(self) -> bool {
+        self as usize >= Mark::WideStepLongest as usize
+    }
 }
 
 #[derive(Clone)]
@@ -181,8 +226,8 @@ impl Coverage {
         [("names stored", &self.stored), ("names compared", &self.compared)]
     }
 
-    /// What the run has never met of what it must meet.
-    pub fn missing(&self) -> Vec<String> {
+    /// What a run of such lists has never met of what it must meet.
+    pub fn missing(&self, widths: Widths) -> Vec<String> {
         let mut missing = Vec::new();
         for number in 0..10 {
             if self.makings[number] + self.ticks[number] + self.datagrams[number] == 0 {
@@ -209,7 +254,8 @@ impl Coverage {
             }
         }
         for (mark, name) in Mark::ALL {
-            if self.marks[mark as usize] == 0 {
+            let must = widths == Widths::Both || !mark.is_wide();
+            if must && self.marks[mark as usize] == 0 {
                 missing.push(name.into());
             }
         }
@@ -282,7 +328,7 @@ mod tests {
             met.marks[mark as usize] = 0;
         }
         assert_eq!(
-            met.missing(),
+            met.missing(Widths::Both),
             [
                 "all 256 values in names stored",
                 "all 256 values in names compared",
@@ -296,12 +342,15 @@ mod tests {
     #[test]
     fn a_mark_that_was_missed_is_named() {
         let mut met = met();
-        assert_eq!(met.missing(), Vec::<String>::new());
+        assert_eq!(met.missing(Widths::Both), Vec::<String>::new());
         for (mark, name) in Mark::ALL {
             met.marks[mark as usize] = 0;
-            assert_eq!(met.missing(), [name]);
+            assert_eq!(met.missing(Widths::Both), [name]);
             met.mark(mark, false);
-            assert_eq!(met.missing(), [name]);
+            assert_eq!(met.missing(Widths::Both), [name]);
+            // Without tables for weeks of thirteen bits their marks are not missed.
+            let wide = name.starts_with("13 bits: ");
+            assert_eq!(met.missing(Widths::TenBits).is_empty(), wide, "{name}");
             met.mark(mark, true);
         }
     }

@@ -28,7 +28,11 @@ macro_rules! faults {
 faults! {
     // Refusal 1: the clock record.
     ClockKind
+    // That of a table of the other length.
+    ClockKindOfOther
     Place
+    // The three highest bytes of eight, which are 0 in every place.
+    PlaceHighBytes
     // Refusal 1: the roster's records.
     LineKind
     LineOrder

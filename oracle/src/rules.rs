@@ -2,11 +2,11 @@
 //! `Law` is these rules. They are a trait so that a variant can put one wrong
 //! rule in place of a right one; the calls themselves are compiled for `Law`.
 
-use crate::clock::Clock;
+use crate::clock::{Clock, Weeks};
 use crate::fault::Fault;
 use crate::name::{self, Compared};
 use crate::query::{LlqNumber, LlqOption, Question, Sender};
-use crate::table::{Entry, Table};
+use crate::table::{self, Entry, Table};
 
 pub const SHORTEST_LEASE: u32 = 60;
 pub const LONGEST_LEASE: u32 = 7_200;
@@ -41,8 +41,18 @@ pub trait Rules {
         found
     }
 
+    /// The kind of the clock record that a making writes.
+    fn clock_kind(weeks: Weeks) -> u8 {
+        table::clock_kind(weeks)
+    }
+
+    /// The place of a reading, or nothing if its week or second is too large.
+    fn place(weeks: Weeks, week: u32, second: u32) -> Option<u64> {
+        weeks.place(week, second)
+    }
+
     /// The clock moved on by an accepted reading's place.
-    fn moved(clock: Clock, place: u32) -> Clock {
+    fn moved(clock: Clock, place: u64) -> Clock {
         clock.moved(place)
     }
 

@@ -2,7 +2,7 @@
 
 use crate::compare::{self, Run};
 use crate::coverage::Coverage;
-use crate::generate::List;
+use crate::generate::{List, Widths};
 use crate::random::Random;
 use crate::script::Step;
 use crate::server::Server;
@@ -50,6 +50,7 @@ impl Trace {
 pub fn random_lists(
     reference: &dyn Server,
     tested: &dyn Server,
+    widths: Widths,
     seed: u64,
     calls: u64,
     mut trace: Option<Trace>,
@@ -57,7 +58,7 @@ pub fn random_lists(
     let mut seeds = Random::new(seed);
     let mut run = Run::new(reference, tested);
     while run.coverage.calls < calls {
-        let mut list = List::new(seeds.number());
+        let mut list = List::new(seeds.number(), widths);
         let mut steps = Vec::new();
         if let Some(trace) = &mut trace {
             trace.restart().expect("the trace can be written");

@@ -12,14 +12,14 @@ pub struct SetBack {
     /// stamp since: what the clock was set back by, less the steps forward since, in seconds.
     behind: BTreeMap<u64, u64>,
     /// The last reading's step, if it was a step back that changed nothing; else 0.
-    last: i32,
+    last: i64,
     /// How many readings in a row have each gone a little further back, and changed nothing.
     creeping: u32,
 }
 
 impl SetBack {
     /// An answered tick or datagram with this step, the tally before it and after it.
-    pub fn call(&mut self, coverage: &mut Coverage, step: i32, before: &Tally, after: &Tally) {
+    pub fn call(&mut self, coverage: &mut Coverage, step: i64, before: &Tally, after: &Tally) {
         let set_back = step < 0 && after.place != before.place;
         // From the last reading it is a small step back, whatever it is from the last place.
         let further = (self.last - SMALL_STEP_BACK..self.last).contains(&step);
@@ -37,8 +37,7 @@ impl SetBack {
                 continue;
             }
             if set_back {
-                let back = u64::from(step.unsigned_abs());
-                behind.insert(old.number, was.unwrap_or(0) + back);
+                behind.insert(old.number, was.unwrap_or(0) + step.unsigned_abs());
             } else if let Some(was) = was {
                 aged |= 0 < was && was <= on;
                 behind.insert(old.number, was.saturating_sub(on));
@@ -63,7 +62,7 @@ fn is_still(new: &Holding, old: &Holding, on: u64) -> bool {
 #[cfg(test)]
 mod tests {
     use super::*;
-    use crate::clock;
+    use crate::clock::Weeks;
     use crate::tally::{self, Question};
 
     const START: u32 = 500_000;
@@ -75,7 +74,8 @@ mod tests {
             Holding { address, port, question, number, lease, age, established }
         });
         let holdings = holdings.collect();
-        Some(Tally { place: START.into(), count: 0, slots: 9, roster: vec![], holdings })
+        let (weeks, place) = (1_024, START.into());
+        Some(Tally { weeks, place, count: 0, slots: 9, roster: vec![], holdings })
     }
 
     /// The marks that a tick reaches, at seconds from the start.
@@ -83,11 +83,11 @@ mod tests {
         let before = known.clone().unwrap();
         let place = START.wrapping_add_signed(at);
         assert_eq!(tally::tick(known, 0, place).number, 0);
-        let step = clock::step(before.place as u32, place);
+        let step = Weeks::Ten.step(before.place as u64, place.into());
         marks(set_back, step, &before, known.as_ref().unwrap())
     }
 
-    fn marks(set_back: &mut SetBack, step: i32, before: &Tally, after: &Tally) -> Vec<Mark> {
+    fn marks(set_back: &mut SetBack, step: i64, before: &Tally, after: &Tally) -> Vec<Mark> {
         let mut coverage = Coverage::default();
         set_back.call(&mut coverage, step, before, after);
         let all = Mark::ALL.iter().map(|&(mark, _)| mark);

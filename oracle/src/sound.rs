@@ -1,6 +1,6 @@
 //! When a table is sound.
 
-use crate::clock::CYCLE;
+use crate::clock::{Clock, Weeks};
 use crate::fault::Fault;
 use crate::name;
 use crate::rules::{Rules, LONGEST_LEASE, SHORTEST_LEASE};
@@ -16,10 +16,22 @@ fn all_zero(bytes: &[u8]) -> bool {
 /// The length has been judged already.
 pub fn is_sound<R: Rules>(table: &Table) -> bool {
     let clock = table.clock();
-    !R::faulty(Fault::ClockKind, table.clock[0] != CLOCK)
-        && !R::faulty(Fault::Place, clock.place >= CYCLE)
+    clock_is_sound::<R>(table.clock[0], clock)
         && roster_is_sound::<R>(table.roster, table.slots.len())
         && slots_are_sound::<R>(table, clock.count)
+}
+
+/// The kind that goes with the length, and a place under the cycle: if it has eight bytes, the three
+/// highest are 0 and the five others are under it.
+fn clock_is_sound<R: Rules>(kind: u8, clock: Clock) -> bool {
+    let (right, other) = match clock.weeks {
+        Weeks::Ten => (CLOCK, WIDE_CLOCK),
+        Weeks::Thirteen => (WIDE_CLOCK, CLOCK),
+    };
+    !(R::faulty(Fault::ClockKind, kind != right && kind != other)
+        || R::faulty(Fault::ClockKindOfOther, kind == other)
+        || R::faulty(Fault::Place, clock.place % (1 << 40) >= clock.weeks.cycle())
+        || R::faulty(Fault::PlaceHighBytes, clock.place >> 40 != 0))
 }
 
 /// Sixteen lines, listed ones first, unused ones all zero.
@@ -164,12 +176,19 @@ mod tests {
         line
     }
 
+    const HEAD: usize = head(Weeks::Ten);
+    const CLOCK_RECORD: usize = clock_record(Weeks::Ten);
+
     /// n = 4, address 1 with share 2 and limit 3, address 2 with share 1 and limit 1.
-    fn made() -> Vec<u8> {
-        let mut bytes = vec![0; HEAD + 4 * SLOT_RECORD];
+    fn made_for(weeks: Weeks) -> Vec<u8> {
+        let mut bytes = vec![0; head(weeks) + 4 * SLOT_RECORD];
         let roster = [listed(1, 2, 3), listed(2, 1, 1)].concat();
         assert_eq!(make(0, 0, &mut bytes, &roster), 0);
         bytes
+    }
+
+    fn made() -> Vec<u8> {
+        made_for(Weeks::Ten)
     }
 
     fn put(bytes: &mut [u8], slot: usize, address: u8, port: u8, number: u8, name: &[u8]) {
@@ -203,6 +222,7 @@ mod tests {
         let (line, slot) = (CLOCK_RECORD + LINE_RECORD, HEAD + SLOT_RECORD);
         for (at, value) in [
             (0, 2),
+            (0, 9),
             (1, 0x25),
             (line, 2),
             (line, 4),
@@ -247,10 +267,72 @@ mod tests {
     #[test]
     fn last_place_is_under_the_cycle() {
         let mut bytes = made();
-        bytes[1..5].copy_from_slice(&(CYCLE - 1).to_be_bytes());
-        assert!(sound(&bytes));
-        bytes[1..5].copy_from_slice(&CYCLE.to_be_bytes());
+        for (place, is_sound) in
+            [(0u32, true), (619_315_199, true), (619_315_200, false), (u32::MAX, false)]
+        {
+            bytes[1..5].copy_from_slice(&place.to_be_bytes());
+            assert_eq!(sound(&bytes), is_sound, "{place}");
+        }
+        let mut bytes = made_for(Weeks::Thirteen);
+        for (place, is_sound) in [
+            (0u64, true),
+            (619_315_199, true),
+            (619_315_200, true),
+            (4_294_967_295, true),
+            (4_294_967_296, true),
+            (4_954_521_599, true),
+            (4_954_521_600, false),
+            (4_954_521_601, false),
+            (0xFF_FFFF_FFFF, false),
+            // Any bit of the three highest bytes.
+            (1 << 40, false),
+            (1 << 47, false),
+            (1 << 48, false),
+            (1 << 56, false),
+            (1 << 63, false),
+            (1 << 63 | 4_954_521_599, false),
+            (u64::MAX, false),
+        ] {
+            bytes[1..9].copy_from_slice(&place.to_be_bytes());
+            assert_eq!(sound(&bytes), is_sound, "{place}");
+        }
+    }
+
+    /// The running count is free, the kind is that of the length.
+    #[test]
+    fn kinds_of_clocks() {
+        for (weeks, right, count) in [(Weeks::Ten, 0x01, 5), (Weeks::Thirteen, 0x09, 9)] {
+            let mut bytes = made_for(weeks);
+            assert_eq!(bytes[0], right);
+            for now in [1u32, 1 << 31, u32::MAX] {
+                bytes[count..count + 4].copy_from_slice(&now.to_be_bytes());
+                assert!(sound(&bytes), "{weeks:?} {now}");
+            }
+            for kind in (0..=255).filter(|&kind| kind != right) {
+                assert!(unsound_with(&bytes, 0, kind), "{weeks:?} {kind}");
+            }
+        }
+    }
+
+    /// All else is as in the other table, four bytes further on.
+    #[test]
+    fn a_wider_clock_moves_the_rest() {
+        let (narrow, wide) = (made(), made_for(Weeks::Thirteen));
+        assert_eq!(narrow[..9], [1, 0, 0, 0, 0, 0, 0, 0, 0]);
+        assert_eq!(wide[..13], [9, 0, 0, 0, 0, 0, 0, 0, 0, 0, 0, 0, 0]);
+        assert_eq!(narrow[9..], wide[13..]);
+        let mut bytes = wide.clone();
+        bytes[317] = 7;
         assert!(!sound(&bytes));
+        // Wherever a bit is turned, both are sound then or neither.
+        for at in 13..wide.len() {
+            let [one, other] = [(at - 4, &narrow), (at, &wide)].map(|(at, table)| {
+                let mut bytes = table.clone();
+                bytes[at] ^= 1;
+                sound(&bytes)
+            });
+            assert_eq!(one, other, "byte {at}");
+        }
     }
 
     #[test]

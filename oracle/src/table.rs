@@ -1,19 +1,20 @@
 //! The table's layout: records of one kind byte and a body of fixed length.
 
-use crate::clock::{self, Clock};
+use crate::clock::{self, Clock, Weeks};
 use crate::query::{LlqNumber, Question, Sender};
 
+/// A clock with a place of 4 bytes, for weeks of ten bits.
 pub const CLOCK: u8 = 0x01;
+/// A clock with a place of 8 bytes, for weeks of thirteen bits.
+pub const WIDE_CLOCK: u8 = 0x09;
 pub const UNUSED: u8 = 0x02;
 pub const LISTED: u8 = 0x03;
 pub const FREE: u8 = 0x04;
 pub const PENDING: u8 = 0x05;
 pub const ESTABLISHED: u8 = 0x06;
 
-pub const CLOCK_RECORD: usize = 9;
 pub const LINE_RECORD: usize = 19;
 pub const LINES: usize = 16;
-pub const HEAD: usize = CLOCK_RECORD + LINES * LINE_RECORD;
 pub const SLOT_RECORD: usize = 320;
 pub const MOST_SLOTS: usize = 64;
 
@@ -41,11 +42,35 @@ pub const UNUSED_LINE: LineRecord = {
     line
 };
 
-/// The number of slots of a table of this length, n from 1 to 64: 313 + 320n bytes.
-pub fn slots_of(length: usize) -> Option<usize> {
-    let body = length.checked_sub(HEAD)?;
-    let slots = body / SLOT_RECORD;
-    (body % SLOT_RECORD == 0 && (1..=MOST_SLOTS).contains(&slots)).then_some(slots)
+pub const fn clock_kind(weeks: Weeks) -> u8 {
+    match weeks {
+        Weeks::Ten => CLOCK,
+        Weeks::Thirteen => WIDE_CLOCK,
+    }
+}
+
+/// The clock record's length: kind, place and running count.
+pub const fn clock_record(weeks: Weeks) -> usize {
+    match weeks {
+        Weeks::Ten => 1 + 4 + 4,
+        Weeks::Thirteen => 1 + 8 + 4,
+    }
+}
+
+/// The length of what comes before the slots: the clock and the roster.
+pub const fn head(weeks: Weeks) -> usize {
+    clock_record(weeks) + LINES * LINE_RECORD
+}
+
+/// The bits of the weeks and the number of slots of a table of this length, n from 1 to 64:
+/// 313 + 320n bytes for weeks of ten bits, 317 + 320n for those of thirteen.
+pub fn shape_of(length: usize) -> Option<(Weeks, usize)> {
+    [Weeks::Ten, Weeks::Thirteen].into_iter().find_map(|weeks| {
+        let body = length.checked_sub(head(weeks))?;
+        let slots = body / SLOT_RECORD;
+        let right = body % SLOT_RECORD == 0 && (1..=MOST_SLOTS).contains(&slots);
+        right.then_some((weeks, slots))
+    })
 }
 
 fn array<const N: usize>(bytes: &[u8], at: usize) -> [u8; N] {
@@ -128,7 +153,8 @@ impl<'a> Entry<'a> {
 
 /// A lent table of a right length, taken apart into its records.
 pub struct Table<'a> {
-    pub clock: &'a mut [u8; CLOCK_RECORD],
+    pub weeks: Weeks,
+    pub clock: &'a mut [u8],
     pub roster: &'a mut [LineRecord],
     pub slots: &'a mut [SlotRecord],
 }
@@ -136,23 +162,30 @@ pub struct Table<'a> {
 impl<'a> Table<'a> {
     /// Nothing if the length is wrong.
     pub fn new(bytes: &'a mut [u8]) -> Option<Self> {
-        slots_of(bytes.len())?;
-        let (clock, rest) = bytes.split_first_chunk_mut()?;
+        let (weeks, _) = shape_of(bytes.len())?;
+        let (clock, rest) = bytes.split_at_mut(clock_record(weeks));
         let (roster, slots) = rest.split_at_mut(LINES * LINE_RECORD);
-        Some(Table { clock, roster: roster.as_chunks_mut().0, slots: slots.as_chunks_mut().0 })
+        let (roster, slots) = (roster.as_chunks_mut().0, slots.as_chunks_mut().0);
+        Some(Table { weeks, clock, roster, slots })
     }
 
     pub fn clock(&self) -> Clock {
-        Clock {
-            place: u32::from_be_bytes(array(self.clock, 1)),
-            count: u32::from_be_bytes(array(self.clock, 5)),
-        }
+        let weeks = self.weeks;
+        let (place, count) = match weeks {
+            Weeks::Ten => (u32::from_be_bytes(array(self.clock, 1)).into(), array(self.clock, 5)),
+            Weeks::Thirteen => (u64::from_be_bytes(array(self.clock, 1)), array(self.clock, 9)),
+        };
+        Clock { weeks, place, count: u32::from_be_bytes(count) }
     }
 
+    /// Place and running count; the kind stays.
     pub fn set_clock(&mut self, clock: Clock) {
-        self.clock[0] = CLOCK;
-        self.clock[1..5].copy_from_slice(&clock.place.to_be_bytes());
-        self.clock[5..9].copy_from_slice(&clock.count.to_be_bytes());
+        let count = self.clock.len() - 4;
+        match self.weeks {
+            Weeks::Ten => self.clock[1..count].copy_from_slice(&(clock.place as u32).to_be_bytes()),
+            Weeks::Thirteen => self.clock[1..count].copy_from_slice(&clock.place.to_be_bytes()),
+        }
+        self.clock[count..].copy_from_slice(&clock.count.to_be_bytes());
     }
 
     /// The listed lines, which come first.
@@ -241,12 +274,34 @@ mod tests {
 
     #[test]
     fn lengths() {
-        assert_eq!(HEAD, 313);
-        assert_eq!(slots_of(313 + 320), Some(1));
-        assert_eq!(slots_of(313 + 320 * 64), Some(64));
-        for length in [0, 1, 312, 313, 314, 632, 634, 313 + 320 * 65, 320 * 64, usize::MAX] {
-            assert_eq!(slots_of(length), None);
+        assert_eq!([Weeks::Ten, Weeks::Thirteen].map(head), [313, 317]);
+        for slots in 1..=64 {
+            assert_eq!(shape_of(313 + 320 * slots), Some((Weeks::Ten, slots)));
+            assert_eq!(shape_of(317 + 320 * slots), Some((Weeks::Thirteen, slots)));
         }
+        // All others are no tables, those of no slots and of 65 among them.
+        let tables = (0..25_000).filter(|&length| shape_of(length).is_some());
+        assert_eq!(tables.count(), 2 * 64);
+        for length in [0, 313, 317, 313 + 320 * 65, 317 + 320 * 65, usize::MAX] {
+            assert_eq!(shape_of(length), None);
+        }
+    }
+
+    #[test]
+    fn clocks_are_written_and_read() {
+        let mut bytes = [0xEE; 313 + 320];
+        let mut table = Table::new(&mut bytes).unwrap();
+        let clock = Clock { weeks: Weeks::Ten, place: 619_315_199, count: 0x0102_0304 };
+        table.set_clock(clock);
+        assert_eq!(table.clock(), clock);
+        assert_eq!(bytes[..10], [0xEE, 0x24, 0xE9, 0xFF, 0xFF, 1, 2, 3, 4, 0xEE]);
+
+        let mut bytes = [0xEE; 317 + 320];
+        let mut table = Table::new(&mut bytes).unwrap();
+        let clock = Clock { weeks: Weeks::Thirteen, place: 4_954_521_599, count: 0x0102_0304 };
+        table.set_clock(clock);
+        assert_eq!(table.clock(), clock);
+        assert_eq!(bytes[..14], [0xEE, 0, 0, 0, 1, 0x27, 0x4F, 0xFF, 0xFF, 1, 2, 3, 4, 0xEE]);
     }
 
     #[test]

@@ -35,6 +35,8 @@ pub struct Holding {
 
 #[derive(Clone, PartialEq, Eq, Debug)]
 pub struct Tally {
+    /// How many weeks its readings know, by the buffer's length.
+    pub weeks: i64,
     pub place: i64,
     pub count: u64,
     /// n
@@ -130,27 +132,33 @@ impl Answer {
     }
 }
 
-/// Places come around after this many seconds.
-const CYCLE: i64 = 619_315_200;
-
 /// A place this many seconds behind the last one, or fewer, is ignored.
 const BEHIND_IGNORED: i64 = 60;
 
 /// The sender of a datagram: address and port.
 pub type From = ([u8; 16], u16);
 
-/// Week and second to a place, or nothing if one is too large.
-fn place_of(week: u32, second: u32) -> Option<i64> {
-    if week > 1_023 || second > 604_799 {
+/// Week and second to a place, or nothing if one is too large for so many weeks.
+fn place_of(weeks: i64, week: u32, second: u32) -> Option<i64> {
+    let (week, second) = (i64::from(week), i64::from(second));
+    if week > weeks - 1 || second > 604_799 {
         None
     } else {
-        Some(i64::from(week) * 604_800 + i64::from(second))
+        Some(week * 604_800 + second)
     }
 }
 
-/// n by the buffer's length.
-pub fn slots_by_length(length: usize) -> Option<usize> {
-    (1..=64).find(|n| 313 + 320 * n == length)
+/// Weeks and n by the buffer's length.
+pub fn by_length(length: usize) -> Option<(i64, usize)> {
+    for n in 1..=64 {
+        if length == 313 + 320 * n {
+            return Some((1_024, n));
+        }
+        if length == 317 + 320 * n {
+            return Some((8_192, n));
+        }
+    }
+    None
 }
 
 /// The roster rules: addresses differ, share at most limit, limit 1 to 64, shares at most n in all.
@@ -197,16 +205,16 @@ pub fn make(
     table_length: usize,
     roster: &[u8],
 ) -> Answer {
-    let Some(slots) = slots_by_length(table_length) else {
+    let Some((weeks, slots)) = by_length(table_length) else {
         return Answer::refused(1);
     };
-    let Some(place) = place_of(week, second) else {
+    let Some(place) = place_of(weeks, week, second) else {
         return Answer::refused(2);
     };
     let Some(roster) = roster_given(roster, slots) else {
         return Answer::refused(9);
     };
-    *known = Some(Tally { place, count: 0, slots, roster, holdings: Vec::new() });
+    *known = Some(Tally { weeks, place, count: 0, slots, roster, holdings: Vec::new() });
     Answer::default()
 }
 
@@ -215,7 +223,7 @@ pub fn tick(known: &mut Option<Tally>, week: u32, second: u32) -> Answer {
     let Some(tally) = known else {
         return Answer::refused(1);
     };
-    let Some(place) = place_of(week, second) else {
+    let Some(place) = place_of(tally.weeks, week, second) else {
         return Answer::refused(2);
     };
     let freed = tally.move_clock(place);
@@ -235,7 +243,7 @@ pub fn serve(
     let Some(tally) = known else {
         return Answer::refused(1);
     };
-    let Some(place) = place_of(week, second) else {
+    let Some(place) = place_of(tally.weeks, week, second) else {
         return Answer::refused(2);
     };
     let datagram = match datagram::read(bytes) {
@@ -286,8 +294,9 @@ impl Tally {
     /// shorter way counts, and the way back if they are equal. The way on is added to the count and
     /// to every age. The way back is added to nothing; one of over 60 seconds keeps the new place.
     fn move_clock(&mut self, place: i64) -> usize {
-        let ahead = (place - self.place).rem_euclid(CYCLE);
-        let behind = CYCLE - ahead;
+        let cycle = self.weeks * 604_800;
+        let ahead = (place - self.place).rem_euclid(cycle);
+        let behind = cycle - ahead;
         if ahead < behind {
             self.place = place;
             self.count = (self.count + ahead as u64) % 4_294_967_296;
@@ -467,7 +476,7 @@ fn reply(datagram: &Datagram, options: &[(u16, Told)]) -> Vec<u8> {
 #[cfg(test)]
 mod tests {
     use super::*;
-    use crate::moves::MOVES;
+    use crate::moves::{MOVES, WIDE_MOVES};
     use crate::spans::SPANS;
 
     fn holding(lease: u64, age: u64) -> Holding {
@@ -478,6 +487,7 @@ mod tests {
     #[test]
     fn ages_are_whole_numbers() {
         let mut tally = Tally {
+            weeks: 1_024,
             place: 619_315_199,
             count: 4_294_967_295,
             slots: 2,
@@ -491,20 +501,48 @@ mod tests {
         assert_eq!(tally.move_clock(309_657_658), 1);
     }
 
+    /// Also by steps over 31 bits, of which two are more than the count holds.
+    #[test]
+    fn ages_are_whole_numbers_over_the_wide_cycle() {
+        let mut tally = Tally {
+            weeks: 8_192,
+            place: 4_954_521_599,
+            count: 4_294_967_295,
+            slots: 2,
+            roster: vec![],
+            holdings: vec![holding(60, 0), holding(1 << 40, 0)],
+        };
+        assert_eq!(tally.move_clock(0), 0);
+        assert_eq!((tally.place, tally.count, tally.holdings[0].age), (0, 0, 1));
+        assert_eq!(tally.move_clock(2_477_260_799), 1);
+        assert_eq!(tally.move_clock(4_954_521_598), 0);
+        assert_eq!(tally.holdings, [holding(1 << 40, 4_954_521_599)]);
+        assert_eq!((tally.place, tally.count), (4_954_521_598, 659_554_302));
+        // Half a cycle back, nothing is older.
+        assert_eq!(tally.move_clock(2_477_260_798), 0);
+        assert_eq!((tally.place, tally.count), (2_477_260_798, 659_554_302));
+        assert_eq!(tally.holdings, [holding(1 << 40, 4_954_521_599)]);
+    }
+
     /// What is added to the count is added to every age, and nothing else is.
     #[test]
     fn the_clock_moves_and_ages_with_it() {
-        for ((from, before), to, (place, count)) in MOVES {
+        let wide = WIDE_MOVES.map(|clock| (8_192, clock));
+        for (weeks, ((from, before), to, (place, count))) in
+            MOVES.map(|clock| (1_024, clock)).into_iter().chain(wide)
+        {
             let mut tally = Tally {
-                place: from.into(),
+                weeks,
+                place: from as i64,
                 count: before.into(),
                 slots: 2,
                 roster: vec![],
                 holdings: vec![holding(1 << 40, 0), holding(1 << 40, 50)],
             };
             let added = u64::from(count.wrapping_sub(before));
-            assert_eq!(tally.move_clock(to.into()), 0);
-            assert_eq!((tally.place, tally.count), (place.into(), count.into()), "{from} to {to}");
+            assert_eq!(tally.move_clock(to as i64), 0);
+            let moved = (tally.place, tally.count);
+            assert_eq!(moved, (place as i64, count.into()), "{from} to {to} of {weeks}");
             assert_eq!(tally.holdings, [holding(1 << 40, added), holding(1 << 40, 50 + added)]);
         }
     }
@@ -512,9 +550,21 @@ mod tests {
     /// A step back strikes nothing, however little is left; what is left runs on from the new place.
     #[test]
     fn leases_run_on_from_a_place_set_back() {
-        for back in [1, 60, 61, 31_536_000, 309_657_600] {
-            let place = 400_000_000;
+        for (weeks, back) in [
+            (1_024, 1),
+            (1_024, 60),
+            (1_024, 61),
+            (1_024, 31_536_000),
+            (1_024, 309_657_600),
+            (8_192, 60),
+            (8_192, 61),
+            (8_192, 619_315_200),
+            (8_192, 2_147_483_649),
+            (8_192, 2_477_260_800),
+        ] {
+            let place = 400_000_000 + (weeks - 1_024) * 604_800;
             let mut tally = Tally {
+                weeks,
                 place,
                 count: 9,
                 slots: 2,
@@ -540,6 +590,7 @@ mod tests {
             for established in [false, true] {
                 let before = Holding { established, ..holding(lease, age) };
                 let mut tally = Tally {
+                    weeks: 1_024,
                     place: 0,
                     count: 0,
                     slots: 1,
@@ -573,6 +624,7 @@ mod tests {
             ..holding(100, 10)
         };
         let tally = Tally {
+            weeks: 1_024,
             place: 0,
             count: 0,
             slots: 4,
@@ -629,22 +681,79 @@ mod tests {
         assert_eq!(make(&mut known, 0, 0, 633, &[3]).number, 9);
         assert_eq!(known, None);
         assert_eq!(make(&mut known, 1, 2, 633, &[]).number, 0);
-        let made = Tally { place: 604_802, count: 0, slots: 1, roster: vec![], holdings: vec![] };
-        assert_eq!(known, Some(made));
+        let made = |weeks, place| {
+            Some(Tally { weeks, place, count: 0, slots: 1, roster: vec![], holdings: vec![] })
+        };
+        assert_eq!(known, made(1_024, 604_802));
+        // By the length alone the weeks are more.
+        assert_eq!(make(&mut known, 1_024, 0, 317, &[]).number, 1);
+        assert_eq!(make(&mut known, 8_192, 0, 637, &[]).number, 2);
+        assert_eq!(make(&mut known, 8_191, 604_800, 637, &[]).number, 2);
+        assert_eq!(make(&mut known, 8_191, 604_799, 637, &[3]).number, 9);
+        assert_eq!(known, made(1_024, 604_802));
+        assert_eq!(make(&mut known, 8_191, 604_799, 637, &[]).number, 0);
+        assert_eq!(known, made(8_192, 4_954_521_599));
+        assert_eq!(tick(&mut known, 8_192, 0).number, 2);
+        assert_eq!(tick(&mut known, 1_024, 0).number, 0);
+        assert_eq!(make(&mut known, 0, 0, 633, &[]).number, 0);
+        assert_eq!(tick(&mut known, 1_024, 0).number, 2);
+        assert_eq!(known, made(1_024, 0));
+    }
+
+    #[test]
+    fn lengths_of_tables() {
+        assert_eq!(by_length(633), Some((1_024, 1)));
+        assert_eq!(by_length(20_793), Some((1_024, 64)));
+        assert_eq!(by_length(637), Some((8_192, 1)));
+        assert_eq!(by_length(20_797), Some((8_192, 64)));
+        for length in [0, 313, 314, 315, 316, 317, 632, 634, 635, 636, 638, 21_113, 21_117] {
+            assert_eq!(by_length(length), None);
+        }
     }
 
     #[test]
     fn tables_read_as_tallies() {
-        let mut known = None;
-        let mut bytes = vec![7; 313 + 3 * 320];
-        assert_eq!(table::read(&bytes), None);
-        let mut roster = [0; 19];
-        roster[0] = 3;
-        roster[17..].copy_from_slice(&[1, 2]);
-        make(&mut known, 3, 4, bytes.len(), &roster);
-        assert_eq!(crate::make(3, 4, &mut bytes, &roster), 0);
-        assert_eq!(table::read(&bytes), known);
-        bytes[400] = 1;
-        assert_eq!(table::read(&bytes), None);
+        for length in [313 + 3 * 320, 317 + 3 * 320] {
+            let mut known = None;
+            let mut bytes = vec![7; length];
+            assert_eq!(table::read(&bytes), None);
+            let mut roster = [0; 19];
+            roster[0] = 3;
+            roster[17..].copy_from_slice(&[1, 2]);
+            make(&mut known, 3, 4, bytes.len(), &roster);
+            assert_eq!(crate::make(3, 4, &mut bytes, &roster), 0);
+            assert_eq!(table::read(&bytes), known);
+            // The kind is that of the length.
+            bytes[0] ^= 8;
+            assert_eq!(table::read(&bytes), None);
+            bytes[0] ^= 8;
+            assert_eq!(table::read(&bytes), known);
+            bytes[400] = 1;
+            assert_eq!(table::read(&bytes), None);
+        }
+    }
+
+    #[test]
+    fn places_of_tables_are_under_the_cycle() {
+        let mut wide = vec![7; 637];
+        assert_eq!(crate::make(0, 0, &mut wide, &[]), 0);
+        for (place, sound) in [
+            (4_954_521_599u64, true),
+            (4_954_521_600, false),
+            (1 << 40, false),
+            (1 << 63, false),
+            (u64::MAX, false),
+        ] {
+            wide[1..9].copy_from_slice(&place.to_be_bytes());
+            wide[9..13].copy_from_slice(&[1, 2, 3, 4]);
+            let read = table::read(&wide).map(|tally| (tally.place as u64, tally.count));
+            assert_eq!(read, sound.then_some((place, 0x0102_0304)));
+        }
+        let mut narrow = vec![7; 633];
+        assert_eq!(crate::make(0, 0, &mut narrow, &[]), 0);
+        for (place, sound) in [(619_315_199u32, true), (619_315_200, false), (u32::MAX, false)] {
+            narrow[1..5].copy_from_slice(&place.to_be_bytes());
+            assert_eq!(table::read(&narrow).is_some(), sound);
+        }
     }
 }

@@ -1,6 +1,6 @@
-//! The samples W1 to W11 of document 01.
+//! The samples W1 to W11 of document 01, and those of the clock with weeks of thirteen bits.
 
-use oracle::clock::{self, Clock, WEEK};
+use oracle::clock::{self, Clock, Weeks, WEEK};
 use oracle::query::LlqNumber;
 use oracle::rules::{Law, Rules};
 use oracle::table::{Entry, SlotRecord};
@@ -8,10 +8,44 @@ use oracle::{make, serve, tick, Served, Ticked};
 
 #[test]
 fn w1_to_w3_steps() {
-    assert_eq!(clock::step(619_315_199, 0), 1);
-    assert_eq!(clock::step(0, 309_657_600), -309_657_600);
-    assert_eq!(clock::step(10, 9), -1);
-    assert_eq!(Clock { place: 619_315_199, count: 5 }.moved(0), Clock { place: 0, count: 6 });
+    let weeks = Weeks::Ten;
+    assert_eq!(weeks.step(619_315_199, 0), 1);
+    assert_eq!(weeks.step(0, 309_657_600), -309_657_600);
+    assert_eq!(weeks.step(10, 9), -1);
+    let moved = Clock { weeks, place: 619_315_199, count: 5 }.moved(0);
+    assert_eq!(moved, Clock { weeks, place: 0, count: 6 });
+}
+
+#[test]
+fn steps_over_the_wide_cycle() {
+    let weeks = Weeks::Thirteen;
+    for (from, to, step) in [
+        (4_954_521_599, 0, 1),
+        (0, 2_477_260_800, -2_477_260_800),
+        (0, 2_477_260_799, 2_477_260_799),
+        (0, 2_147_483_648, 2_147_483_648),
+        (619_315_199, 619_315_200, 1),
+        (10, 9, -1),
+    ] {
+        assert_eq!(weeks.step(from, to), step, "{from} to {to}");
+    }
+    let clock = |place, count| Clock { weeks, place, count };
+    // The longest step on the last count.
+    let moved = clock(0, 4_294_967_295).moved(2_477_260_799);
+    assert_eq!(moved, clock(2_477_260_799, 2_477_260_798));
+    // 60 back and 61 back.
+    assert_eq!(clock(5_000_000, 9).moved(4_999_940), clock(5_000_000, 9));
+    assert_eq!(clock(5_000_000, 9).moved(4_999_939), clock(4_999_939, 9));
+}
+
+#[test]
+fn a_table_at_the_end_of_the_wide_cycle() {
+    let mut table = vec![0xAA; 637];
+    assert_eq!(make(8_191, 604_799, &mut table, &[]), 0);
+    assert_eq!(table[..13], bytes("09 00 00 00 01 27 4F FF FF 00 00 00 00"));
+    assert_eq!(tick(0, 0, &mut table), Ticked { number: 0, freed: 0 });
+    assert_eq!(table[..13], bytes("09 00 00 00 00 00 00 00 00 00 00 00 01"));
+    assert_eq!(tick(8_192, 0, &mut table), Ticked { number: 2, freed: 0 });
 }
 
 #[test]

@@ -8,28 +8,51 @@
 //!
 //! Exits with 1 if the sides do not agree, before anything is timed or after.
 
+use oracle::clock::Weeks;
 #[cfg(feature = "before")]
 use oracle::server::Before;
 use oracle::server::{Linked, Oracle, Plain, Server};
+use oracle::table;
 use std::hint::black_box;
 use std::ops::Range;
 use std::process::ExitCode;
 use std::time::{Duration, Instant};
 
+struct Side {
+    name: &'static str,
+    server: &'static dyn Server,
+    /// Tables for weeks of thirteen bits are known to it.
+    wide: bool,
+}
+
 /// The library first: the others are what it is compared with.
-const SIDES: &[(&str, &dyn Server)] = &[
-    ("library", &Linked),
-    ("oracle", &Oracle),
-    ("plain C", &Plain),
+const SIDES: &[Side] = &[
+    Side { name: "library", server: &Linked, wide: true },
+    Side { name: "oracle", server: &Oracle, wide: true },
+    Side { name: "plain C", server: &Plain, wide: true },
+    // It refuses the lengths of those tables with 1: there is no time of it in their rows.
     #[cfg(feature = "before")]
-    ("before", &Before),
+    Side { name: "before", server: &Before, wide: false },
 ];
+
+impl Side {
+    fn knows(&self, weeks: Weeks) -> bool {
+        self.wide || weeks == Weeks::Ten
+    }
+}
 
 const SLOTS: [usize; 3] = [4, 16, 64];
 
 // ---- the calls
 
-const WEEK: u32 = 300;
+/// The week of every call. Of thirteen bits one whose places 32 bits do not hold.
+const fn week(weeks: Weeks) -> u32 {
+    match weeks {
+        Weeks::Ten => 300,
+        Weeks::Thirteen => 8_000,
+    }
+}
+
 /// When the table is made, and when the timed calls are.
 const MADE: u32 = 200_000;
 const NOW: u32 = 200_600;
@@ -82,6 +105,24 @@ const CALLS: [Call; 12] = [
     SetupUnlike,
 ];
 
+/// Each call with the weeks that its table is for; those of both one after the other.
+fn rows() -> impl Iterator<Item = (Call, Weeks)> {
+    CALLS.into_iter().flat_map(|call| {
+        let wide = call.is_wide_too().then_some((call, Weeks::Thirteen));
+        [(call, Weeks::Ten)].into_iter().chain(wide)
+    })
+}
+
+/// What a row is called.
+fn row_name(call: Call, weeks: Weeks) -> String {
+    match (call, weeks) {
+        (_, Weeks::Ten) => call.name(),
+        (Tick, _) => "tick, 13-bit weeks".into(),
+        (Refresh(questions), _) => format!("refresh of {questions}, 13-bit weeks"),
+        _ => format!("{}, 13-bit weeks", call.name()),
+    }
+}
+
 impl Call {
     fn name(self) -> String {
         match self {
@@ -107,6 +148,11 @@ impl Call {
             LongSetup => 4,
             _ => 1,
         }
+    }
+
+    /// Timed on tables for weeks of thirteen bits too.
+    fn is_wide_too(self) -> bool {
+        matches!(self, Tick | Refresh(1))
     }
 
     fn is_tick(self) -> bool {
@@ -256,11 +302,11 @@ impl Exchange {
         &mut self,
         side: &dyn Server,
         from: Client,
-        second: u32,
+        (week, second): (u32, u32),
         table: &mut [u8],
     ) -> (u32, u32) {
         let served = side.serve(
-            WEEK,
+            week,
             second,
             Client::HIGH,
             from.low(),
@@ -289,6 +335,7 @@ impl Exchange {
 #[derive(Clone)]
 struct Work {
     call: Call,
+    weeks: Weeks,
     from: Client,
     table: Vec<u8>,
     exchanges: Vec<Exchange>,
@@ -298,16 +345,17 @@ impl Work {
     /// The answer's number, and the length of its reply or how many entries it freed; of several
     /// answers the greatest number and the lengths together.
     fn run(&mut self, side: &dyn Server) -> (u32, u32) {
+        let now = (week(self.weeks), NOW);
         if self.call.is_tick() {
-            let ticked = side.tick(WEEK, NOW, &mut self.table);
+            let ticked = side.tick(now.0, now.1, &mut self.table);
             return (ticked.number, ticked.freed);
         }
         let (from, table) = (self.from, &mut self.table);
         match &mut self.exchanges[..] {
             // Not by the loop below, which would be timed with it.
-            [only] => only.serve(side, from, NOW, table),
+            [only] => only.serve(side, from, now, table),
             several => several.iter_mut().fold((0, 0), |so_far, exchange| {
-                let (number, length) = exchange.serve(side, from, NOW, table);
+                let (number, length) = exchange.serve(side, from, now, table);
                 (number.max(so_far.0), length + so_far.1)
             }),
         }
@@ -316,7 +364,8 @@ impl Work {
     /// Serves a query by the oracle; the numbers that the reply gives.
     fn served(&mut self, query: Vec<u8>, second: u32) -> Vec<u64> {
         let mut exchange = Exchange::new(query);
-        let answer = exchange.serve(&Oracle, self.from, second, &mut self.table);
+        let reading = (week(self.weeks), second);
+        let answer = exchange.serve(&Oracle, self.from, reading, &mut self.table);
         assert_eq!(answer, (0, exchange.datagram.len() as u32), "a reply is as long as its query");
         exchange.granted()
     }
@@ -355,7 +404,7 @@ impl Work {
 /// A table filled by the oracle, and what is timed on it. Every client has 2 or 3 entries; the one
 /// who calls comes last and has 4 where it asks for 4, or has all. Every slot is taken but for one
 /// where a new question is set up.
-fn work(call: Call, slots: usize) -> Work {
+fn work(call: Call, weeks: Weeks, slots: usize) -> Work {
     let mut holdings = Vec::new();
     let own = call.held(slots);
     let mut left = slots - call.free() - own;
@@ -376,9 +425,9 @@ fn work(call: Call, slots: usize) -> Work {
         }
     }
 
-    let table = vec![0; 313 + 320 * slots];
-    let mut work = Work { call, from: Client(0), table, exchanges: Vec::new() };
-    assert_eq!(Oracle.make(WEEK, MADE, &mut work.table, &roster), 0, "the table is made");
+    let table = vec![0; table::head(weeks) + table::SLOT_RECORD * slots];
+    let mut work = Work { call, weeks, from: Client(0), table, exchanges: Vec::new() };
+    assert_eq!(Oracle.make(week(weeks), MADE, &mut work.table, &roster), 0, "the table is made");
     let (mut names, mut numbers) = (Vec::new(), Vec::new());
     for (at, &held) in holdings.iter().enumerate() {
         work.from = Client(at as u8);
@@ -387,7 +436,7 @@ fn work(call: Call, slots: usize) -> Work {
         numbers = work.all_served(SETUP, &names, &vec![0; held], second);
         work.all_served(SETUP, &names, &numbers, second);
     }
-    assert_eq!(Oracle.tick(WEEK, NOW, &mut work.table).number, 0, "the clock moves on");
+    assert_eq!(Oracle.tick(week(weeks), NOW, &mut work.table).number, 0, "the clock moves on");
     if call.is_repeated_setup() {
         // At age 0 what remains is the granted lease, which an archive from before that rule tells.
         work.all_served(REFRESH, &names, &numbers, NOW);
@@ -420,10 +469,10 @@ fn work(call: Call, slots: usize) -> Work {
 
 // ---- agreement
 
-/// The work as a first call leaves it, from which on a call changes no byte. Every side is
-/// given the same bytes, twice, and must answer and leave the same.
-fn agreed(call: Call, slots: usize) -> Result<Work, String> {
-    let given = work(call, slots);
+/// The work as a first call leaves it, from which on a call changes no byte. Every side that knows such
+/// tables is given the same bytes, twice, and must answer and leave the same.
+fn agreed(call: Call, weeks: Weeks, slots: usize) -> Result<Work, String> {
+    let given = work(call, weeks, slots);
     let mut left = given.clone();
     let answer = left.run(&Oracle);
     assert_eq!(answer.0, call.number(), "the number that the workload is for");
@@ -437,13 +486,13 @@ fn agreed(call: Call, slots: usize) -> Result<Work, String> {
         }
     }
     assert!(call.free() == 0 || left.table == given.table, "what is set up is ended");
-    for &(name, side) in SIDES {
+    for side in SIDES.iter().filter(|side| side.knows(weeks)) {
         let mut work = given.clone();
         for _ in 0..2 {
-            let same = work.run(side) == answer;
+            let same = work.run(side.server) == answer;
             if !same || !work.same_bytes(&left) {
-                let call = call.name();
-                return Err(format!("{call}, {slots} slots: {name} differs from the oracle"));
+                let (row, name) = (row_name(call, weeks), side.name);
+                return Err(format!("{row}, {slots} slots: {name} differs from the oracle"));
             }
         }
     }
@@ -479,22 +528,37 @@ fn calls_in(batch_time: Duration, work: &mut Work, side: &dyn Server) -> u32 {
     }
 }
 
-/// Nanoseconds per call of each side: the least over the batches.
-fn timed(work: &mut Work, timing: &Timing) -> [f64; SIDES.len()] {
+/// Nanoseconds per call of each side that knows such tables: the least over the batches.
+type Least = [Option<f64>; SIDES.len()];
+
+fn timed(work: &mut Work, timing: &Timing) -> Least {
     let mut calls = [0; SIDES.len()];
-    for (calls, (_, side)) in calls.iter_mut().zip(SIDES) {
-        *calls = calls_in(timing.batch, work, *side);
+    let mut least = [None; SIDES.len()];
+    for (at, side) in SIDES.iter().enumerate() {
+        if side.knows(work.weeks) {
+            calls[at] = calls_in(timing.batch, work, side.server);
+            least[at] = Some(f64::INFINITY);
+        }
     }
-    let mut least = [f64::INFINITY; SIDES.len()];
     for round in 0..timing.batches {
         for turn in 0..SIDES.len() {
             // Each side has its turn in each place.
             let side = (round + turn) % SIDES.len();
-            let took = batch(work, SIDES[side].1, calls[side]);
-            least[side] = least[side].min(took.as_secs_f64() * 1e9 / f64::from(calls[side]));
+            if let Some(ns) = &mut least[side] {
+                let took = batch(work, SIDES[side].server, calls[side]);
+                *ns = ns.min(took.as_secs_f64() * 1e9 / f64::from(calls[side]));
+            }
         }
     }
     least
+}
+
+/// One number by another, as wide as this; a stroke if one of them is not there.
+fn ratio(one: Option<f64>, other: Option<f64>, width: usize) -> String {
+    match (one, other) {
+        (Some(one), Some(other)) => format!("{:>width$.2}", one / other),
+        _ => format!("{:>width$}", "-"),
+    }
 }
 
 fn run(timing: &Timing) -> Result<(), String> {
@@ -507,31 +571,56 @@ fn run(timing: &Timing) -> Result<(), String> {
          4), 3 or 4 roster lines\n\
          all alike, all unlike: one address and port has every slot, by names of {long} bytes that \
          differ in the last letter, or in the first; who sets up again asks for the last slot's\n\
-         {}: three calls, timed as one",
+         {}: three calls, timed as one\n\
+         13-bit weeks: tables of 317 + 320n bytes, week {}; all others are of 313 + 320n, week {}",
         timing.batches,
         timing.batch.as_micros(),
         Handshake.name(),
+        week(Weeks::Thirteen),
+        week(Weeks::Ten),
     );
     let mut all = Vec::new();
-    for call in CALLS {
+    for (call, weeks) in rows() {
         for slots in SLOTS {
-            all.push((slots, agreed(call, slots)?));
+            all.push((slots, agreed(call, weeks, slots)?));
         }
     }
-    println!("answers, tables and replies: compared, equal on all sides\n");
-    let names = || SIDES.iter().map(|(name, _)| name);
+    println!("answers, tables and replies: compared, equal on all sides that know the table\n");
+    let names = || SIDES.iter().map(|side| side.name);
     let columns: String = names().map(|name| format!(" {name:>10}")).collect();
     let ratios: String = names().skip(1).map(|name| format!("  library/{name}")).collect();
     println!("{:<26} {:>5}{columns}{ratios}", "workload", "slots");
+    let mut times = Vec::new();
     for (slots, agreed) in all {
         let mut work = agreed.clone();
+        let row = row_name(work.call, work.weeks);
         let least = timed(&mut work, timing);
-        let columns: String = least.iter().map(|ns| format!(" {ns:>10.0}")).collect();
-        let ratio = |(name, ns): (&&str, &f64)| format!("{:>1$.2}", least[0] / ns, name.len() + 10);
-        let ratios: String = names().zip(&least).skip(1).map(ratio).collect();
-        println!("{:<26} {slots:>5}{columns}{ratios}", work.call.name());
+        let column = |ns: &Option<f64>| match ns {
+            Some(ns) => format!(" {ns:>10.0}"),
+            None => format!(" {:>10}", "-"),
+        };
+        let columns: String = least.iter().map(column).collect();
+        let by = |(name, ns): (&str, &Option<f64>)| ratio(least[0], *ns, name.len() + 10);
+        let ratios: String = names().zip(&least).skip(1).map(by).collect();
+        println!("{row:<26} {slots:>5}{columns}{ratios}");
         if !work.same_bytes(&agreed) {
-            return Err(format!("{}, {slots} slots: changed by timed calls", work.call.name()));
+            return Err(format!("{row}, {slots} slots: changed by timed calls"));
+        }
+        times.push((row, slots, least));
+    }
+    // The same call on the same number of slots, by the sides that know both tables.
+    let both = || (0..SIDES.len()).filter(|&side| SIDES[side].knows(Weeks::Thirteen));
+    let columns: String = both().map(|side| format!(" {:>10}", SIDES[side].name)).collect();
+    println!("\n13-bit weeks by those of ten bits\n{:<26} {:>5}{columns}", "workload", "slots");
+    for call in CALLS.into_iter().filter(|call| call.is_wide_too()) {
+        for slots in SLOTS {
+            let [wide, narrow] = [Weeks::Thirteen, Weeks::Ten].map(|weeks| {
+                let row = row_name(call, weeks);
+                let found = times.iter().find(|time| time.0 == row && time.1 == slots);
+                found.expect("every row was timed").2
+            });
+            let columns: String = both().map(|side| ratio(wide[side], narrow[side], 11)).collect();
+            println!("{:<26} {slots:>5}{columns}", call.name());
         }
     }
     Ok(())

@@ -41,13 +41,18 @@ use std::fs;
 use std::path::Path;
 use std::process::ExitCode;
 
-/// The whole table buffer: 64 slots.
-const BUFFER: usize = 20_793;
+/// The whole table buffer: 64 slots, and weeks of thirteen bits.
+const BUFFER: usize = 20_797;
 /// The most of a reply buffer that the program lends.
 const ROOM: usize = 1_600;
 
 /// Week and second.
 type Reading = (u32, u32);
+
+/// The reading of a place.
+fn reading(place: u64) -> Reading {
+    ((place / 604_800) as u32, (place % 604_800) as u32)
+}
 
 #[derive(Clone, Copy)]
 struct Sender {
@@ -231,10 +236,11 @@ impl Script {
 
     /// The reading of the table's last place, and its running count.
     fn clock(&self) -> (Reading, u32) {
-        let bytes = |at: usize| self.buffer[at..at + 4].iter();
-        let [place, count] =
-            [1, 5].map(|at| bytes(at).fold(0, |number, &byte| number << 8 | u32::from(byte)));
-        ((place / 604_800, place % 604_800), count)
+        // The place has 4 bytes in a table of 313 + 320n, 8 in one of 317 + 320n.
+        let end = if self.length % 320 == 317 { 9 } else { 5 };
+        let number = |bytes: &[u8]| bytes.iter().fold(0, |n, &byte| n << 8 | u64::from(byte));
+        let (place, count) = (number(&self.buffer[1..end]), number(&self.buffer[end..end + 4]));
+        (reading(place), count as u32)
     }
 
     fn record(
@@ -287,6 +293,11 @@ impl Script {
     /// Makes a table of n slots.
     fn make(&mut self, reading: Reading, n: usize, roster: &[Vec<u8>]) -> u32 {
         self.make_in(reading, 313 + 320 * n, &roster.concat())
+    }
+
+    /// The same for weeks of thirteen bits.
+    fn make_wide(&mut self, reading: Reading, n: usize, roster: &[Vec<u8>]) -> u32 {
+        self.make_in(reading, 317 + 320 * n, &roster.concat())
     }
 
     /// The call's number and how many it freed.
@@ -647,10 +658,7 @@ fn set_back_a_year(s: &mut Script) {
 /// The running count over its end at 2^32: ages go on, no live entry is lost.
 fn count_wraps(s: &mut Script) {
     const CYCLE: u64 = 619_315_200;
-    let reading = |count: u64| {
-        let place = count % CYCLE;
-        ((place / 604_800) as u32, (place % 604_800) as u32)
-    };
+    let reading = |count: u64| reading(count % CYCLE);
     s.make((0, 0), 2, &[]);
     // Ticks by almost the longest step, from place 0, so that place and count go together.
     for count in (0..1u64 << 32).step_by(300_000_000).skip(1) {
@@ -1172,10 +1180,203 @@ fn sixty_four_slots(s: &mut Script) {
     assert_eq!(s.tick((170, 3_607)), (0, 55));
 }
 
+/// Tables for weeks of thirteen bits: 317 + 320n bytes.
+fn thirteen_bit_weeks(s: &mut Script) {
+    // Week 8,191 to week 0, leases over it; the whole table before it and after.
+    assert_eq!(s.make_wide((8_191, 604_799), 1, &[]), 0);
+    assert_eq!(s.table()[..13], [9, 0, 0, 0, 1, 0x27, 0x4F, 0xFF, 0xFF, 0, 0, 0, 0]);
+    s.dump();
+    assert_eq!(s.tick((0, 0)), (0, 0));
+    assert_eq!(s.table()[..13], [9, 0, 0, 0, 0, 0, 0, 0, 0, 0, 0, 0, 1]);
+    s.make_wide((8_191, 604_790), 4, &[]);
+    assert_eq!(s.ask((8_191, 604_795), PANEL, 1, &[setup("a", 60)]), [granted(1, 60)]);
+    assert_eq!(s.ask((8_191, 604_799), PANEL, 2, &[setup("b", 60)]), [granted(2, 60)]);
+    assert_eq!(s.tick((0, 0)), (0, 0));
+    assert_eq!(s.ask((0, 5), PANEL, 1, &[response("b", 2, 60)]), [granted(2, 54)]);
+    s.dump();
+    assert_eq!(s.tick((0, 54)), (0, 0));
+    assert_eq!(s.tick((0, 55)), (0, 1));
+    assert_eq!(s.tick((0, 59)), (0, 1));
+
+    // Week 1,023 to week 1,024 is a second; week 0 after week 1,023 is that week, far back.
+    s.make_wide((1_023, 604_790), 2, &[]);
+    assert_eq!(s.ask((1_023, 604_799), PANEL, 1, &[setup("a", 60)]), [granted(1, 60)]);
+    assert_eq!(s.tick((1_024, 0)), (0, 0));
+    assert_eq!(s.clock(), ((1_024, 0), 10));
+    assert_eq!(s.ask((1_024, 58), PANEL, 1, &[response("a", 1, 60)]), [granted(1, 1)]);
+    assert_eq!(s.tick((0, 59)), (0, 0));
+    assert_eq!(s.clock(), ((0, 59), 68));
+    assert_eq!(s.tick((0, 60)), (0, 1));
+
+    steps_over_the_wide_cycle(s);
+    wide_steps_back(s);
+    weeks_by_length(s);
+    kinds_by_length(s);
+
+    // The largest table, every slot taken; its place goes over 2^32.
+    let roster: Vec<_> = (0..16).map(|at| listed(Sender { low: at, ..DESK }, 4, 4)).collect();
+    assert_eq!(s.make_wide((7_101, 282_490), 64, &roster), 0);
+    for at in 0..16 {
+        let from = Sender { low: at, ..DESK };
+        let told = s.ask((7_101, 282_495), from, 1, &["a", "b", "c", "d"].map(|n| setup(n, 60)));
+        assert_eq!(told[3], granted(4 * at + 4, 60));
+    }
+    assert_eq!(s.ask((7_101, 282_496), PANEL, 1, &[setup("a", 60)]), [FULL]);
+    assert_eq!(s.table()[..13], [9, 0, 0, 0, 1, 0, 0, 0, 0, 0, 0, 0, 6]);
+    assert_eq!(s.tick((7_101, 282_555)), (0, 64));
+}
+
+/// Both ends of the step of thirteen bits, steps that 31 bits do not hold, and the count's wrap by them.
+fn steps_over_the_wide_cycle(s: &mut Script) {
+    s.make_wide((0, 0), 2, &[]);
+    assert_eq!(s.ask((0, 0), PANEL, 1, &[setup("a", 60)]), [granted(1, 60)]);
+    // Half a cycle is a step back: the place alone is new, and the lease runs on from there.
+    assert_eq!(s.tick((4_096, 0)), (0, 0));
+    assert_eq!(s.clock(), ((4_096, 0), 0));
+    assert_eq!(s.ask((4_096, 1), PANEL, 1, &[setup("a", 60)]), [granted(1, 59)]);
+    // Back by 2^31 + 1 it is the same.
+    assert_eq!(s.tick(reading(2_477_260_801 - 2_147_483_649)), (0, 0));
+    assert_eq!(s.clock(), (reading(329_777_152), 1));
+    // On by 2^31, and by a second less than half a cycle: each ends the entry that is held.
+    assert_eq!(s.tick(reading(329_777_152 + 2_147_483_648)), (0, 1));
+    assert_eq!(s.clock(), ((4_096, 0), 2_147_483_649));
+    assert_eq!(s.ask((4_096, 0), PANEL, 1, &[setup("a", 7_200)]), [granted(1, 7_200)]);
+    assert_eq!(s.tick((8_191, 604_799)), (0, 1));
+    s.dump();
+    // The count over its end: an entry lives on, and ends at its lease.
+    s.make_wide((0, 0), 2, &[]);
+    assert_eq!(s.tick((4_095, 604_799)), (0, 0));
+    assert_eq!(s.tick(reading(4_294_967_295)), (0, 0));
+    assert_eq!(s.clock(), (reading(4_294_967_295), u32::MAX));
+    assert_eq!(s.ask(reading(4_294_967_295), PANEL, 1, &[setup("a", 60)]), [granted(1, 60)]);
+    assert_eq!(s.ask(reading(4_294_967_354), PANEL, 1, &[response("a", 1, 60)]), [granted(1, 1)]);
+    assert_eq!(s.clock(), (reading(4_294_967_354), 58));
+    assert_eq!(s.tick(reading(4_294_967_355)), (0, 1));
+    // By the longest step from its last number.
+    s.make_wide((0, 0), 1, &[]);
+    assert_eq!(s.tick((4_095, 604_799)), (0, 0));
+    assert_eq!(s.tick(reading(4_294_967_295)), (0, 0));
+    assert_eq!(s.tick(reading(4_294_967_295 + 2_477_260_799 - 4_954_521_600)), (0, 0));
+    assert_eq!(s.clock(), (reading(1_817_706_494), 2_477_260_798));
+}
+
+/// Back by 60 seconds nothing changes, by 61 the new place is kept, also over the cycle's end.
+fn wide_steps_back(s: &mut Script) {
+    s.make_wide((5_000, 100), 2, &[]);
+    assert_eq!(s.ask((5_000, 110), PANEL, 1, &[setup("a", 200)]), [granted(1, 200)]);
+    assert_eq!(s.tick((5_000, 50)), (0, 0));
+    assert_eq!(s.clock(), ((5_000, 110), 10));
+    assert_eq!(s.ask((5_000, 49), PANEL, 1, &[setup("a", 200)]), [granted(1, 200)]);
+    assert_eq!(s.clock(), ((5_000, 49), 10));
+    s.dump();
+    assert_eq!(s.ask((5_000, 110), PANEL, 1, &[setup("a", 200)]), [granted(1, 139)]);
+    // Over the start of week 1,024, and over the cycle's end.
+    for (week, before) in [(1_024, 1_023), (0, 8_191)] {
+        s.make_wide((week, 30), 1, &[]);
+        assert_eq!(s.ask((week, 30), PANEL, 1, &[setup("a", 60)]), [granted(1, 60)]);
+        assert_eq!(s.tick((before, 604_770)), (0, 0));
+        assert_eq!(s.clock(), ((week, 30), 0));
+        assert_eq!(s.tick((before, 604_769)), (0, 0));
+        assert_eq!(s.clock(), ((before, 604_769), 0));
+        assert_eq!(s.tick((week, 28)), (0, 0));
+        assert_eq!(s.tick((week, 29)), (0, 1));
+    }
+}
+
+/// The length alone says which weeks are taken, and a week is never another one modulo 1,024.
+fn weeks_by_length(s: &mut Script) {
+    // Lengths beside those of a table of one slot, and none for slots.
+    for length in [314, 315, 316, 317, 634, 635, 636, 638] {
+        assert_eq!(s.make_in((0, 0), length, &[]), 1);
+    }
+    assert_eq!(s.make_wide((8_192, 0), 1, &[vec![3]]), 2);
+    assert_eq!(s.make_wide((8_191, 604_800), 1, &[]), 2);
+    assert_eq!(s.make_wide((8_191, 604_799), 1, &[vec![3]]), 9);
+    assert_eq!(s.make_wide((8_191, 604_799), 1, &[]), 0);
+    for reading in [(8_192, 0), (8_193, 0), (u32::MAX, 0), (0, 604_800)] {
+        assert_eq!(s.tick(reading), (2, 0));
+        assert_eq!(s.refused(reading, &W11), 2);
+    }
+    assert_eq!(s.clock(), ((8_191, 604_799), 0));
+    // Made again in the same buffer: week 1,024.
+    assert_eq!(s.make_wide((1_024, 7), 1, &[]), 0);
+    assert_eq!(s.clock(), ((1_024, 7), 0));
+    // Four bytes fewer: a table for weeks of ten bits.
+    assert_eq!(s.make((1_024, 7), 1, &[]), 2);
+    assert_eq!(s.make((1_023, 7), 1, &[]), 0);
+    for reading in [(1_024, 0), (1_025, 0), (2_048, 0), (8_191, 604_799), (8_192, 0)] {
+        assert_eq!(s.make(reading, 1, &[]), 2);
+        assert_eq!(s.tick(reading), (2, 0));
+        assert_eq!(s.refused(reading, &W11), 2);
+    }
+    assert_eq!(s.clock(), ((1_023, 7), 0));
+}
+
+/// A clock of kind 0x01 at a length of 317 + 320n, and one of kind 0x09 at 313 + 320n. No call writes
+/// such a table, but the bytes that calls have written may be lent at the other length. Lines and slots
+/// are then read from four bytes further on, or before, and these bytes are sound there too, but for
+/// the kind.
+fn kinds_by_length(s: &mut Script) {
+    let sound_but_for_kind = |s: &Script, length: usize, right: u8| {
+        let mut table = s.buffer[..length].to_vec();
+        assert_eq!(oracle::tick(0, 0, &mut table).number, 1);
+        table[0] = right;
+        assert_eq!(oracle::tick(0, 0, &mut table).number, 0);
+    };
+    let line = |address: [u8; 16]| [&[3][..], &address, &[0, 1]].concat();
+    let ask = |s: &mut Script, now: Reading, from: Sender, number, question: &[u8]| {
+        let sent = message(&[question.to_vec()], &[(1, option(1, 1, 0, 0, 3_600))]);
+        let (_, reply) = s.send(now, from, number, sent.len(), &sent);
+        assert_eq!(told(&reply, 1), [granted(number, 3_600)]);
+    };
+
+    // Kind 0x01. The four bytes behind the shorter table are zeros that a longer one has left.
+    assert_eq!(s.make_wide((0, 0), 1, &[]), 0);
+    // In each address share 0 and limit 1 for the line before, and a line's kind.
+    let lines = (0..16).map(|at| line([at, 0, 1, 3, 0, 0, 0, 0, 0, 0, 0, 0, 0, 0, 0, 0]));
+    assert_eq!(s.make((1_023, 604_700), 1, &lines.collect::<Vec<_>>()), 0);
+    // The sender's address does so for the last line and has the entry's kind, the stamp is a lease, type
+    // and class are a stamp, and in the name there is one more, its length before it.
+    let from = Sender { high: 0x7700_0105 << 32, low: 0, port: 5_353 };
+    ask(s, (0, 0), from, 7, b"\x05xx\x03\x01a\x00\x03\x00\x00\x01");
+    assert_eq!(s.clock(), ((0, 0), 100));
+    sound_but_for_kind(s, 637, 9);
+    assert_eq!(s.make_wide((8_192, 0), 1, &[]), 2);
+    s.dump();
+    assert_eq!(s.tick((0, 0)), (1, 0));
+    assert_eq!(s.refused((0, 0), &W11), 1);
+    assert_eq!(s.refused((8_192, 0), &[]), 1);
+    // At its own length it is as it was.
+    assert_eq!(s.make((1_024, 0), 1, &[]), 2);
+    assert_eq!(s.tick((0, 1)), (0, 0));
+    assert_eq!(s.clock(), ((0, 1), 101));
+
+    // Kind 0x09. In each address share 0, limit 1 and the next line's kind, or the entry's; the count
+    // starts with the first line's.
+    let kind = |at| if at < 15 { 3 } else { 5 };
+    let lines = (0..16).map(|at| line([at, 0, 0, 0, 0, 0, 0, 0, 0, 0, 0, 0, 0, 1, kind(at), 0]));
+    let count = 0x0300_0000;
+    let made = reading(4_954_521_600 + 3_600 - u64::from(count));
+    assert_eq!(s.make_wide(made, 1, &lines.collect::<Vec<_>>()), 0);
+    // The place is a count, the lease a stamp and the number a lease; the type is the length of a name
+    // and of its first label.
+    ask(s, (0, 3_600), PANEL, 100, b"\x01a\x00\x07\x05xx");
+    assert_eq!(s.clock(), ((0, 3_600), count));
+    sound_but_for_kind(s, 633, 1);
+    assert_eq!(s.make((1_024, 0), 1, &[]), 2);
+    s.dump();
+    assert_eq!(s.tick((0, 3_600)), (1, 0));
+    assert_eq!(s.refused((0, 3_600), &W11), 1);
+    assert_eq!(s.refused((1_024, 0), &[]), 1);
+    assert_eq!(s.make_wide((8_192, 0), 1, &[]), 2);
+    assert_eq!(s.tick((0, 3_601)), (0, 0));
+    assert_eq!(s.clock(), ((0, 3_601), count + 1));
+}
+
 type List = (&'static str, fn(&mut Script));
 
 /// The lists in their order.
-const LISTS: [List; 27] = [
+const LISTS: [List; 28] = [
     ("nothing made", nothing_made),
     ("W11", w11),
     ("handshake", handshake),
@@ -1203,6 +1404,7 @@ const LISTS: [List; 27] = [
     ("ignored", ignored),
     ("made again", made_again),
     ("sixty-four slots", sixty_four_slots),
+    ("thirteen-bit weeks", thirteen_bit_weeks),
 ];
 
 /// Runs every list, one after the other on one buffer, and says which lines are whose.

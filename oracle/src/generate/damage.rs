@@ -1,33 +1,54 @@
 //! Table bytes edited: kept sound, or damaged field by field.
 
 use super::world::{name, name_of, World};
+use super::Widths;
+use crate::clock::Weeks;
 use crate::random::Random;
 use crate::script::Step;
-use crate::table::{field, CLOCK_RECORD, HEAD, LINES, LINE_RECORD, SLOT_RECORD};
+use crate::table::{clock_record, field, head, shape_of, LINES, LINE_RECORD, SLOT_RECORD};
 
 fn number(bytes: &[u8]) -> u64 {
     bytes.iter().fold(0, |number, &byte| number << 8 | u64::from(byte))
 }
 
+fn weeks(table: &[u8]) -> Weeks {
+    shape_of(table.len()).expect("the length of a table").0
+}
+
+/// Where the running count is.
+fn count_at(table: &[u8]) -> usize {
+    lines_at(table) - 4
+}
+
 fn count(table: &[u8]) -> u32 {
-    number(&table[5..9]) as u32
+    number(&table[count_at(table)..][..4]) as u32
+}
+
+/// Where the roster is.
+fn lines_at(table: &[u8]) -> usize {
+    clock_record(weeks(table))
 }
 
 fn edit(at: usize, bytes: &[u8]) -> Step {
     Step::Edit { at, bytes: bytes.to_vec() }
 }
 
-fn slots(table: &[u8]) -> usize {
-    (table.len() - HEAD) / SLOT_RECORD
+/// Another last place.
+fn place_edit(table: &[u8], place: u64) -> Step {
+    match weeks(table) {
+        Weeks::Ten => edit(1, &(place as u32).to_be_bytes()),
+        Weeks::Thirteen => edit(1, &place.to_be_bytes()),
+    }
 }
 
-fn slot_at(slot: usize) -> usize {
-    HEAD + slot * SLOT_RECORD
+/// Where the slots are.
+fn slots(table: &[u8]) -> Vec<usize> {
+    (head(weeks(table))..table.len()).step_by(SLOT_RECORD).collect()
 }
 
-/// The places of the slots that hold entries.
+/// Where the slots are that hold entries.
 fn entries(table: &[u8]) -> Vec<usize> {
-    (0..slots(table)).map(slot_at).filter(|&at| table[at] == 5 || table[at] == 6).collect()
+    slots(table).into_iter().filter(|&at| table[at] == 5 || table[at] == 6).collect()
 }
 
 /// Edits that leave a sound table sound, or nearly always do.
@@ -45,7 +66,7 @@ pub fn sound_edits(random: &mut Random, world: &World, table: &[u8]) -> Vec<Step
                 2 => random.below(100) as u32,
                 _ => 0u32.wrapping_sub(random.below(7_300) as u32),
             };
-            steps.push(edit(5, &then.to_be_bytes()));
+            steps.push(edit(count_at(table), &then.to_be_bytes()));
             for at in entries {
                 let stamp = number(&table[at + field::STAMP..][..4]) as u32;
                 let moved = stamp.wrapping_add(then.wrapping_sub(now));
@@ -53,8 +74,13 @@ pub fn sound_edits(random: &mut Random, world: &World, table: &[u8]) -> Vec<Step
             }
         }
         (4, _) => {
-            let place = random.pick(&[0, 619_315_199, 309_657_599, 309_657_600, 604_799u32]);
-            steps.push(edit(1, &place.to_be_bytes()));
+            let narrow = [0, 619_315_199, 309_657_599, 309_657_600, 604_799];
+            let wide = [0, 4_954_521_599, 2_477_260_799, 2_477_260_800, 619_315_199, 1 << 32];
+            let place = match weeks(table) {
+                Weeks::Ten => random.pick(&narrow),
+                Weeks::Thirteen => random.pick(&wide),
+            };
+            steps.push(place_edit(table, *place));
         }
         (5, Some(at)) => {
             // One second left.
@@ -69,7 +95,7 @@ pub fn sound_edits(random: &mut Random, world: &World, table: &[u8]) -> Vec<Step
         }
         (8, Some(at)) => {
             // Two slots trade places.
-            let other = slot_at(random.below(slots(table)));
+            let other = *random.pick(&slots(table));
             steps.push(edit(at, &table[other..other + SLOT_RECORD]));
             steps.push(edit(other, &table[at..at + SLOT_RECORD]));
         }
@@ -94,23 +120,22 @@ pub fn sound_edits(random: &mut Random, world: &World, table: &[u8]) -> Vec<Step
         }
         (_, None) => {
             let then = random.number() as u32;
-            steps.push(edit(5, &then.to_be_bytes()));
+            steps.push(edit(count_at(table), &then.to_be_bytes()));
         }
     }
     steps
 }
 
-/// One edit in one field; now and then the table is still sound after it.
+/// One edit in one field, or the table at another length; now and then it is still sound.
 pub fn damage(random: &mut Random, world: &World, table: &[u8]) -> Step {
     let entries = entries(table);
-    let free: Vec<usize> = (0..slots(table)).map(slot_at).filter(|&at| table[at] == 4).collect();
+    let free: Vec<usize> = slots(table).into_iter().filter(|&at| table[at] == 4).collect();
     match random.below(20) {
-        0 => edit(0, &[*random.pick(&[0, 2, 3, 4, 0x81])]),
-        1 => {
-            let places = [619_315_199, 619_315_200, 619_315_201, u32::MAX, 0x8000_0000];
-            edit(1, &random.pick(&places).to_be_bytes())
-        }
-        2 => edit(5, &(random.number() as u32).to_be_bytes()),
+        // Of both kinds of clock one is wrong.
+        0 => edit(0, &[*random.pick(&[0x01, 0x01, 0x09, 0x09, 0, 2, 8, 0x0A, 0x81, 0x89])]),
+        1 => place_damage(random, table),
+        2 if random.percent(30) => other_length(random, world, table),
+        2 => edit(count_at(table), &(random.number() as u32).to_be_bytes()),
         3..7 => line_damage(random, table),
         7 if !free.is_empty() => {
             edit(*random.pick(&free), &[*random.pick(&[0, 1, 2, 3, 5, 6, 7, 0xFF])])
@@ -140,14 +165,57 @@ pub fn damage(random: &mut Random, world: &World, table: &[u8]) -> Step {
     }
 }
 
+/// Places around the end of the cycle; of eight bytes also others that are too high, and those that
+/// fewer bytes do not hold.
+fn place_damage(random: &mut Random, table: &[u8]) -> Step {
+    const NARROW: [u64; 5] = [619_315_199, 619_315_200, 619_315_201, 0xFFFF_FFFF, 0x8000_0000];
+    const WIDE: [u64; 8] = [
+        4_954_521_599,
+        4_954_521_600,
+        4_954_521_601,
+        619_315_200,
+        0xFFFF_FFFF,
+        0x1_0000_0000,
+        0xFF_FFFF_FFFF,
+        u64::MAX,
+    ];
+    match weeks(table) {
+        Weeks::Ten => place_edit(table, *random.pick(&NARROW)),
+        Weeks::Thirteen if random.percent(50) => place_edit(table, *random.pick(&WIDE)),
+        // A bit of the four highest bytes, of which three are 0 in every place.
+        Weeks::Thirteen => {
+            let at = 1 + random.below(4);
+            edit(at, &[table[at] ^ 1 << random.below(8)])
+        }
+    }
+}
+
+/// The table's bytes at a length near its own: with a place of the other width under its own kind, or
+/// with four bytes more or less at the end, or with one.
+fn other_length(random: &mut Random, world: &World, table: &[u8]) -> Step {
+    let (clock, rest) = table.split_at(lines_at(table));
+    let mut bytes = match (random.below(4), weeks(table)) {
+        (0, Weeks::Ten) => [&[clock[0], 0, 0, 0, 0], &clock[1..], rest].concat(),
+        (0, Weeks::Thirteen) => [&clock[..1], &clock[5..], rest].concat(),
+        (1, Weeks::Ten) => [table, &[0; 4]].concat(),
+        (1, Weeks::Thirteen) => table[..table.len() - 4].to_vec(),
+        (2, _) => table[..table.len() - 1].to_vec(),
+        _ => [table, &[0]].concat(),
+    };
+    if world.widths == Widths::TenBits && super::is_wide(bytes.len()) {
+        bytes.pop();
+    }
+    Step::Table { bytes }
+}
+
 fn line_damage(random: &mut Random, table: &[u8]) -> Step {
-    let listed =
-        (0..LINES).take_while(|line| table[CLOCK_RECORD + line * LINE_RECORD] == 3).count();
+    let line_at = |line| lines_at(table) + line * LINE_RECORD;
+    let listed = (0..LINES).take_while(|&line| table[line_at(line)] == 3).count();
     let any = random.below(LINES);
     let line = if listed > 0 && random.percent(70) { random.below(listed) } else { any };
-    let at = CLOCK_RECORD + line * LINE_RECORD;
+    let at = line_at(line);
     let (share, limit) = (table[at + 17], table[at + 18]);
-    let other = CLOCK_RECORD + random.below(listed.max(1)) * LINE_RECORD;
+    let other = line_at(random.below(listed.max(1)));
     match random.below(10) {
         0 => edit(at, &[*random.pick(&[0, 1, 2, 3, 4, 0x83])]),
         1 => edit(at, &[if table[at] == 2 { 3 } else { 2 }]),
@@ -164,7 +232,7 @@ fn line_damage(random: &mut Random, table: &[u8]) -> Step {
             [record[17], record[18]] =
                 *random.pick(&[[0, 1], [0, 64], [1, 1], [1, 65], [2, 1], [0, 0]]);
             let to = if random.percent(60) { listed.min(LINES - 1) } else { any };
-            edit(CLOCK_RECORD + to * LINE_RECORD, &record)
+            edit(line_at(to), &record)
         }
         _ => edit(at + 1 + random.below(18), &[1 << random.below(8)]),
     }

@@ -1,13 +1,18 @@
 //! The few addresses, ports, questions and numbers that a list draws from, so
 //! that its calls meet each other.
 
+use super::Widths;
+use crate::clock::Weeks;
 use crate::random::Random;
+use crate::table;
 use crate::tally::{From, Line, Tally};
 
 pub const LEASES: [u32; 14] =
     [0, 1, 59, 60, 61, 90, 100, 3_600, 7_199, 7_200, 7_201, 65_536 + 60, 0x8000_0000, u32::MAX];
 
 pub struct World {
+    pub widths: Widths,
+    pub weeks: Weeks,
     pub addresses: Vec<[u8; 16]>,
     pub ports: Vec<u16>,
     pub names: Vec<Vec<u8>>,
@@ -114,7 +119,8 @@ fn some<T: Clone>(random: &mut Random, from: &[T], count: usize) -> Vec<T> {
 }
 
 impl World {
-    pub fn new(random: &mut Random) -> World {
+    pub fn new(random: &mut Random, widths: Widths) -> World {
+        let wide = widths == Widths::Both && random.percent(45);
         let slots = match random.below(20) {
             0..3 => 1,
             3..14 => 2 + random.below(7),
@@ -142,6 +148,8 @@ impl World {
         let mut names = some(random, &all_names, names_taken);
         names.extend(names_of_every_value(random));
         World {
+            widths,
+            weeks: if wide { Weeks::Thirteen } else { Weeks::Ten },
             addresses: some(random, &addresses, addresses_taken),
             ports: some(random, &[5_353, 5_354, 0, 0xFFFF, 0xE914], 3),
             names,
@@ -150,6 +158,15 @@ impl World {
             slots,
             filling,
         }
+    }
+
+    /// The table's length.
+    pub fn length(&self) -> usize {
+        table::head(self.weeks) + self.slots * table::SLOT_RECORD
+    }
+
+    pub fn cycle(&self) -> i64 {
+        self.weeks.cycle() as i64
     }
 
     pub fn sender(&self, random: &mut Random) -> From {

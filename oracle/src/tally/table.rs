@@ -1,7 +1,7 @@
 //! A table's bytes read as a tally: its clock, roster and entries, ages
 //! included and slot places aside; nothing if the table is unsound.
 
-use super::{roster_is_right, slots_by_length, Holding, Line, Question, Tally};
+use super::{by_length, roster_is_right, Holding, Line, Question, Tally};
 
 fn number(bytes: &[u8]) -> u64 {
     bytes.iter().fold(0, |number, &byte| number << 8 | u64::from(byte))
@@ -18,15 +18,18 @@ fn address(bytes: &[u8]) -> [u8; 16] {
 }
 
 pub fn read(bytes: &[u8]) -> Option<Tally> {
-    let slots = slots_by_length(bytes.len())?;
-    let (clock, rest) = bytes.split_at(9);
+    let (weeks, slots) = by_length(bytes.len())?;
+    // The clock's kind, and the bytes of its place; 4 of the count follow.
+    let (kind, place_bytes) = if weeks == 1_024 { (1, 4) } else { (9, 8) };
+    let (clock, rest) = bytes.split_at(1 + place_bytes + 4);
     let (lines, entries) = rest.split_at(16 * 19);
-    let place = number(&clock[1..5]) as i64;
-    let count = number(&clock[5..9]);
-    if clock[0] != 1 || place >= 619_315_200 {
+    let (place, count) = clock[1..].split_at(place_bytes);
+    let (place, count) = (number(place), number(count));
+    if clock[0] != kind || place > weeks as u64 * 604_800 - 1 {
         return None;
     }
-    let mut tally = Tally { place, count, slots, roster: roster(lines)?, holdings: Vec::new() };
+    let (place, roster, holdings) = (place as i64, roster(lines)?, Vec::new());
+    let mut tally = Tally { weeks, place, count, slots, roster, holdings };
     if !roster_is_right(&tally.roster, slots) {
         return None;
     }

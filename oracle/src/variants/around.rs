@@ -2,8 +2,11 @@
 
 use super::Named;
 use crate::calls::{self, Served, Ticked};
+use crate::clock::Weeks;
+use crate::generate::Widths;
 use crate::rules::{Law, Rules};
 use crate::server::{Oracle, Server};
+use crate::table::{self, head, shape_of};
 
 /// A datagram with all that is lent with it.
 struct Call<'a> {
@@ -109,22 +112,36 @@ fn with_options(
     served
 }
 
+/// Where the slots of a table are; none if its length is wrong.
+fn slots(table: &[u8]) -> impl Iterator<Item = usize> {
+    let start = shape_of(table.len()).map_or(table.len(), |(weeks, _)| head(weeks));
+    (start..table.len()).step_by(320)
+}
+
 /// Free slots, pending and established entries by slot: the kinds of a table's slots.
 fn kinds(table: &[u8]) -> Vec<u8> {
-    table
-        .chunks(320)
-        .zip(table.get(313..).unwrap_or(&[]).chunks(320))
-        .map(|(_, slot)| slot[0])
-        .collect()
+    slots(table).map(|at| table[at]).collect()
 }
 
 fn number(bytes: &[u8]) -> u32 {
     bytes.iter().fold(0, |number, &byte| number << 8 | u32::from(byte))
 }
 
+/// Where the running count ends and the roster starts.
+fn clock_end(table: &[u8]) -> usize {
+    shape_of(table.len()).map_or(9, |(weeks, _)| table::clock_record(weeks))
+}
+
 /// The running count.
 fn count(table: &[u8]) -> u32 {
-    table.get(5..9).map_or(0, number)
+    let end = clock_end(table);
+    table.get(end - 4..end).map_or(0, number)
+}
+
+/// A reading that a table of this length does not take.
+fn is_wrong(week: u32, second: u32, table: &[u8]) -> bool {
+    let weeks = shape_of(table.len()).map_or(Weeks::Ten, |(weeks, _)| weeks);
+    weeks.place(week, second).is_none()
 }
 
 /// The setups that found or made an entry: the lease each asked, and its option of the reply.
@@ -154,7 +171,9 @@ fn setups<'a>(
 
 /// The entry with the number that an option of the reply tells.
 fn entry_told<'a>(table: &'a mut [u8], told: &[u8]) -> Option<&'a mut [u8]> {
-    table[313..].chunks_mut(320).find(|slot| slot[0] != 4 && slot[19..27] == told[10..18])
+    let is_told = |&at: &usize| table[at] != 4 && table[at + 19..at + 27] == told[10..18];
+    let at = slots(table).find(is_told)?;
+    Some(&mut table[at..at + 320])
 }
 
 /// Serves question one and copies its option for the rest.
@@ -188,7 +207,8 @@ fn copies_the_first(call: &Call, table: &mut [u8], reply: &mut [u8]) -> Served {
     served
 }
 
-pub fn all() -> Vec<Named> {
+/// Those that lists on such tables can tell apart.
+pub fn all(widths: Widths) -> Vec<Named> {
     type Serve = fn(&Call, &mut [u8], &mut [u8]) -> Served;
     type Tick = fn(u32, u32, &mut [u8]) -> Ticked;
     type Make = fn(u32, u32, &mut [u8], &[u8]) -> u32;
@@ -198,9 +218,9 @@ pub fn all() -> Vec<Named> {
         ("ServeGrantsWithoutStoring", |call, table, reply| {
             let before = kinds(table);
             let served = call.serve(table, reply);
-            for (slot, kind) in before.iter().enumerate() {
-                let record = &mut table[313 + 320 * slot..][..320];
-                if *kind == 4 && record[0] == 5 {
+            for (at, kind) in slots(table).zip(before) {
+                let record = &mut table[at..at + 320];
+                if kind == 4 && record[0] == 5 {
                     record.fill(0);
                     record[0] = 4;
                 }
@@ -325,7 +345,8 @@ pub fn all() -> Vec<Named> {
             let served = call.serve(table, reply);
             let questions = if served.number == 0 { usize::from(reply[5]) } else { 0 };
             if questions > 1 && options(served, reply).count() == 1 {
-                table[313..].copy_from_slice(&before[313..]);
+                let end = clock_end(table);
+                table[end..].copy_from_slice(&before[end..]);
             }
             served
         }),
@@ -426,7 +447,7 @@ pub fn all() -> Vec<Named> {
             let before = table.to_vec();
             let served = call.serve(table, reply);
             if served.number == 0 {
-                for at in (313..table.len()).step_by(320) {
+                for at in slots(table) {
                     let renewed = table[at] == 6
                         && before[at] == 6
                         && table[at + 19..at + 27] == before[at + 19..at + 27];
@@ -497,7 +518,7 @@ pub fn all() -> Vec<Named> {
         }),
         ("ServeReadingBeforeTable", |call, table, reply| {
             let served = call.serve(table, reply);
-            let wrong = call.week > 1_023 || call.second > 604_799;
+            let wrong = is_wrong(call.week, call.second, table);
             Served { number: if wrong { 2 } else { served.number }, ..served }
         }),
         ("ServeWritesPastTheReply", |call, table, reply| {
@@ -513,7 +534,7 @@ pub fn all() -> Vec<Named> {
             let before = table.to_vec();
             let served = call.serve(table, reply);
             if served.number == 0 {
-                for at in (313..table.len()).step_by(320) {
+                for at in slots(table) {
                     if table[at] == 4 && before[at] == 5 {
                         table[at..at + 320].copy_from_slice(&before[at..at + 320]);
                     }
@@ -524,7 +545,7 @@ pub fn all() -> Vec<Named> {
         ("ServeEndedSlotKeepsBytes", |call, table, reply| {
             let before = table.to_vec();
             let served = call.serve(table, reply);
-            for at in (313..table.len()).step_by(320) {
+            for at in slots(table) {
                 if table[at] == 4 && before[at] == 6 {
                     table[at + 1..at + 320].copy_from_slice(&before[at + 1..at + 320]);
                 }
@@ -556,7 +577,7 @@ pub fn all() -> Vec<Named> {
             let ticked = calls::tick(week, second, table);
             if ticked.freed > 1 {
                 let freed: Vec<usize> =
-                    (313..table.len()).step_by(320).filter(|&at| table[at] != before[at]).collect();
+                    slots(table).filter(|&at| table[at] != before[at]).collect();
                 for &at in &freed[1..] {
                     table[at..at + 320].copy_from_slice(&before[at..at + 320]);
                 }
@@ -568,13 +589,14 @@ pub fn all() -> Vec<Named> {
             let before = table.to_vec();
             let ticked = calls::tick(week, second, table);
             if ticked.number == 0 {
-                table[1..9].copy_from_slice(&before[1..9]);
+                let end = clock_end(table);
+                table[..end].copy_from_slice(&before[..end]);
             }
             ticked
         }),
         ("TickUnsoundIsReading", |week, second, table| {
             let ticked = calls::tick(week, second, table);
-            let wrong = week > 1_023 || second > 604_799;
+            let wrong = is_wrong(week, second, table);
             Ticked { number: if wrong { 2 } else { ticked.number }, ..ticked }
         }),
     ];
@@ -584,15 +606,17 @@ pub fn all() -> Vec<Named> {
             let sound = calls::tick(0, 0, &mut before.clone()).number == 0;
             let number = calls::make(week, second, table, roster);
             if number == 0 && sound {
-                table[313..].copy_from_slice(&before[313..]);
+                let slots = slots(table).next().expect("a table has a slot");
+                table[slots..].copy_from_slice(&before[slots..]);
             }
             number
         }),
         ("MakeKeepsCount", |week, second, table, roster| {
-            let count = table.get(5..9).unwrap_or(&[0; 4]).to_vec();
+            let count = count(table);
             let number = calls::make(week, second, table, roster);
             if number == 0 {
-                table[5..9].copy_from_slice(&count);
+                let end = clock_end(table);
+                table[end - 4..end].copy_from_slice(&count.to_be_bytes());
             }
             number
         }),
@@ -612,7 +636,7 @@ pub fn all() -> Vec<Named> {
         }),
         ("MakeReadingBeforeLength", |week, second, table, roster| {
             let number = calls::make(week, second, table, roster);
-            let wrong = week > 1_023 || second > 604_799;
+            let wrong = is_wrong(week, second, table);
             if number == 1 && wrong {
                 2
             } else {
@@ -622,7 +646,7 @@ pub fn all() -> Vec<Named> {
         ("MakeRefusalClearsTable", |week, second, table, roster| {
             let number = calls::make(week, second, table, roster);
             if number == 9 {
-                table[313..].fill(0);
+                slots(table).for_each(|at| table[at..at + 320].fill(0));
             }
             number
         }),
@@ -633,7 +657,23 @@ pub fn all() -> Vec<Named> {
                 calls::make(week, second, table, roster)
             }
         }),
+        ("MakeAllowsNoSlotsForThirteenBits", |week, second, table, roster| {
+            if table.len() == 317 {
+                0
+            } else {
+                calls::make(week, second, table, roster)
+            }
+        }),
     ];
+    let thirteen_bits: Vec<(&str, Make)> =
+        vec![("MakeTenBitsAtThirteenBitLength", |week, second, table, roster| {
+            // The last four bytes are left over.
+            let length = match shape_of(table.len()) {
+                Some((Weeks::Thirteen, _)) => table.len() - 4,
+                _ => table.len(),
+            };
+            calls::make(week, second, &mut table[..length], roster)
+        })];
     let mut all: Vec<Named> = vec![(
         "RefuseAll".into(),
         Box::new(Around {
@@ -650,6 +690,11 @@ pub fn all() -> Vec<Named> {
     }
     for (name, make) in makes {
         all.push((name.into(), Box::new(Around { make, ..UNCHANGED })));
+    }
+    if widths == Widths::Both {
+        for (name, make) in thirteen_bits {
+            all.push((name.into(), Box::new(Around { make, ..UNCHANGED })));
+        }
     }
     all
 }

@@ -2,13 +2,14 @@
 
 use super::Named;
 use crate::calls::{self, Served, Ticked};
-use crate::clock::{self, Clock, CYCLE, SMALL_STEP_BACK};
+use crate::clock::{Clock, Weeks, SMALL_STEP_BACK};
 use crate::fault::Fault;
+use crate::generate::Widths;
 use crate::name::{self, Compared};
 use crate::query::{LlqNumber, LlqOption, Question, Sender};
 use crate::rules::{error, Allowance, Law, Rules, UNLISTED};
-use crate::server::Server;
-use crate::table::{Entry, Table};
+use crate::server::{Oracle, Server};
+use crate::table::{self, Entry, Table};
 use std::cell::Cell;
 use Wrong::*;
 
@@ -46,7 +47,8 @@ wrong! {
     // Document 01's impostor.
     FullToEveryone
 
-    // The clock.
+    // The clock. Those of the step are wrong on tables for weeks of ten bits, and each once more on
+    // those for weeks of thirteen bits (ON_EITHER).
     /// Half a cycle is a step forward.
     StepTieForward
     /// The longest step forward is one backward.
@@ -79,6 +81,28 @@ wrong! {
     RunOutEarly
     RunOutNever
     RunOutEstablishedOnly
+
+    // Weeks of ten bits, on tables for these.
+    /// Weeks to 8,191 are taken, and a place past the cycle is kept.
+    TenBitsTakeWeek1024
+    TenBitsTakeWeeksModulo1024
+
+    // Weeks of thirteen bits, on tables for these.
+    /// The clock moves over the cycle of ten bits.
+    ThirteenBitsOverTenBitCycle
+    /// A step of 2^31 or more is one back, as it is in 32 bits with a sign.
+    ThirteenBitsStepOf32BitsBack
+    /// A step back of more than 2^31 is one forward, as it is in 32 bits with a sign.
+    ThirteenBitsStepOf32BitsForward
+    /// Of the place 32 bits are kept.
+    ThirteenBitsPlaceOf32Bits
+    /// A making writes kind 0x01.
+    ThirteenBitsMadeOfKind1
+    /// Week 8,192 is week 0 again.
+    ThirteenBitsTakeWeek8192
+    ThirteenBitsRefuseWeek1024
+    /// A week of up to 1,023 is one of ten bits, and the nearest such week to the last place is meant.
+    ThirteenBitsGuessTheEpoch
 
     // Names and questions.
     FoldNothing
@@ -207,33 +231,71 @@ impl Rules for Bent {
         found && now() != BlindTo(fault)
     }
 
-    fn moved(clock: Clock, place: u32) -> Clock {
+    fn clock_kind(weeks: Weeks) -> u8 {
+        match (now(), weeks) {
+            (ThirteenBitsMadeOfKind1, Weeks::Thirteen) => table::CLOCK,
+            _ => Law::clock_kind(weeks),
+        }
+    }
+
+    fn place(weeks: Weeks, week: u32, second: u32) -> Option<u64> {
+        let right = Law::place(weeks, week, second);
+        match (now(), weeks) {
+            (TenBitsTakeWeek1024, Weeks::Ten) => Law::place(Weeks::Thirteen, week, second),
+            (TenBitsTakeWeeksModulo1024, Weeks::Ten) => Law::place(weeks, week % 1_024, second),
+            (ThirteenBitsPlaceOf32Bits, Weeks::Thirteen) => right.map(|place| place % (1 << 32)),
+            (ThirteenBitsTakeWeek8192, Weeks::Thirteen) if week == 8_192 => {
+                Law::place(weeks, 0, second)
+            }
+            (ThirteenBitsRefuseWeek1024, Weeks::Thirteen) => Law::place(Weeks::Ten, week, second),
+            _ => right,
+        }
+    }
+
+    fn moved(clock: Clock, place: u64) -> Clock {
         let right = clock.moved(place);
-        let step = clock::step(clock.place, place);
-        let ahead = (place + CYCLE).wrapping_sub(clock.place) % CYCLE;
+        let (weeks, cycle) = (clock.weeks, clock.weeks.cycle());
+        let step = weeks.step(clock.place, place);
+        let ahead = (place + cycle).wrapping_sub(clock.place) % cycle;
         let small = (-SMALL_STEP_BACK..0).contains(&step);
         let large = step < -SMALL_STEP_BACK;
         SET_BACK.set(large);
-        let forward = Clock { place, count: clock.count.wrapping_add(ahead) };
-        let counted = Clock { place, count: clock.count.wrapping_add(step as u32) };
+        let forward = Clock { place, count: clock.count.wrapping_add(ahead as u32), ..clock };
+        let counted = Clock { place, count: clock.count.wrapping_add(step as u32), ..clock };
         let set_back = Clock { place, ..clock };
         match now() {
-            StepTieForward if ahead == CYCLE / 2 => forward,
-            StepLongestBackward if ahead == CYCLE / 2 - 1 => set_back,
+            StepTieForward if ahead == cycle / 2 => forward,
+            StepLongestBackward if ahead == cycle / 2 - 1 => set_back,
             StepNoRollOver if step >= 0 && place < clock.place => set_back,
             StepBackChangesNothing if step < 0 => clock,
             StepBackKeepsPlace if step < 0 => set_back,
             StepBack60KeepsPlace if step == -60 => set_back,
             StepBack61ChangesNothing if step == -61 => clock,
-            StepBackHalfCycleChangesNothing if ahead == CYCLE / 2 => clock,
+            StepBackHalfCycleChangesNothing if ahead == cycle / 2 => clock,
             StepBackByPlaces if small && place > clock.place => set_back,
             SmallStepBackCounts if small => counted,
             LargeStepBackCounts if large => counted,
             LargeStepBackForward if large => forward,
             CountSaturates if step >= 0 => {
-                Clock { place, count: clock.count.saturating_add(step as u32) }
+                Clock { place, count: clock.count.saturating_add(step as u32), ..clock }
             }
-            CountOf31Bits if step > 0 => Clock { place, count: right.count & 0x7FFF_FFFF },
+            CountOf31Bits if step > 0 => Clock { count: right.count & 0x7FFF_FFFF, ..right },
+            _ if weeks == Weeks::Ten => right,
+            ThirteenBitsOverTenBitCycle => {
+                let [from, to] = [clock.place, place].map(|place| place % Weeks::Ten.cycle());
+                clock.moved_by(Weeks::Ten.step(from, to), place)
+            }
+            ThirteenBitsStepOf32BitsBack if step > i32::MAX.into() => {
+                clock.moved_by((step as i32).into(), place)
+            }
+            ThirteenBitsStepOf32BitsForward if step < i32::MIN.into() => {
+                clock.moved_by((step as i32).into(), place)
+            }
+            ThirteenBitsGuessTheEpoch if place < Weeks::Ten.cycle() => {
+                let epochs = (0..8).map(|epoch| place + epoch * Weeks::Ten.cycle());
+                let nearest = epochs.min_by_key(|&to| weeks.step(clock.place, to).abs());
+                clock.moved(nearest.expect("one of eight"))
+            }
             _ => right,
         }
     }
@@ -483,6 +545,77 @@ fn with_any_address(entry: Entry, sender: Sender, question: &Question) -> bool {
     Law::same_holding(entry, Sender { address: entry.address(), ..sender }, question)
 }
 
+/// Wrong at the step or blind to a clock record: each is wrong on tables for weeks of ten bits alone,
+/// and once more on those for weeks of thirteen bits alone.
+const ON_EITHER: [Wrong; 12] = [
+    StepTieForward,
+    StepLongestBackward,
+    StepNoRollOver,
+    StepBackChangesNothing,
+    StepBackKeepsPlace,
+    StepBack60KeepsPlace,
+    StepBack61ChangesNothing,
+    StepBackHalfCycleChangesNothing,
+    StepBackByPlaces,
+    BlindTo(Fault::ClockKind),
+    BlindTo(Fault::ClockKindOfOther),
+    BlindTo(Fault::Place),
+];
+
+/// Right on every table that has no weeks of thirteen bits.
+fn is_of_thirteen_bits(wrong: Wrong) -> bool {
+    matches!(
+        wrong,
+        ThirteenBitsOverTenBitCycle
+            | ThirteenBitsStepOf32BitsBack
+            | ThirteenBitsStepOf32BitsForward
+            | ThirteenBitsPlaceOf32Bits
+            | ThirteenBitsMadeOfKind1
+            | ThirteenBitsTakeWeek8192
+            | ThirteenBitsRefuseWeek1024
+            | ThirteenBitsGuessTheEpoch
+            | BlindTo(Fault::PlaceHighBytes)
+    )
+}
+
+/// Wrong on tables for these weeks, and right on all others.
+struct OnTablesFor(Weeks, Wrong);
+
+impl OnTablesFor {
+    fn server(&self, table: &[u8]) -> &dyn Server {
+        match table::shape_of(table.len()) {
+            Some((weeks, _)) if weeks == self.0 => &self.1,
+            _ => &Oracle,
+        }
+    }
+}
+
+impl Server for OnTablesFor {
+    fn make(&self, week: u32, second: u32, table: &mut [u8], roster: &[u8]) -> u32 {
+        self.server(table).make(week, second, table, roster)
+    }
+
+    fn tick(&self, week: u32, second: u32, table: &mut [u8]) -> Ticked {
+        self.server(table).tick(week, second, table)
+    }
+
+    fn serve(
+        &self,
+        week: u32,
+        second: u32,
+        high: u64,
+        low: u64,
+        port: u16,
+        random: u64,
+        datagram: &[u8],
+        table: &mut [u8],
+        reply: &mut [u8],
+    ) -> Served {
+        let server = self.server(table);
+        server.serve(week, second, high, low, port, random, datagram, table, reply)
+    }
+}
+
 impl Server for Wrong {
     fn make(&self, week: u32, second: u32, table: &mut [u8], roster: &[u8]) -> u32 {
         NOW.set(*self);
@@ -513,12 +646,27 @@ impl Server for Wrong {
 }
 
 fn named(wrong: Wrong) -> Named {
+    if ON_EITHER.contains(&wrong) {
+        return (format!("{wrong:?}"), Box::new(OnTablesFor(Weeks::Ten, wrong)));
+    }
     (format!("{wrong:?}"), Box::new(wrong))
 }
 
-pub fn all() -> Vec<Named> {
+/// Those that lists on such tables can tell apart.
+pub fn all(widths: Widths) -> Vec<Named> {
     let blind = Fault::ALL.iter().map(|&fault| BlindTo(fault));
-    WRONG.iter().copied().chain(blind).map(named).collect()
+    let mut wrong: Vec<Wrong> = WRONG.iter().copied().chain(blind).collect();
+    if widths == Widths::TenBits {
+        wrong.retain(|&wrong| !is_of_thirteen_bits(wrong));
+    }
+    let mut all: Vec<Named> = wrong.into_iter().map(named).collect();
+    if widths == Widths::Both {
+        all.extend(ON_EITHER.map(|wrong| -> Named {
+            let server = Box::new(OnTablesFor(Weeks::Thirteen, wrong));
+            (format!("ThirteenBits{wrong:?}"), server)
+        }));
+    }
+    all
 }
 
 /// The two variants whose fold is wrong at a single byte that does not fold, with a byte for each:
