@@ -12,15 +12,18 @@
 /* ---- sizes and places */
 
 enum {
-    WEEKS = 1024, WEEK = 604800, CYCLE = WEEKS * WEEK, HALF_CYCLE = CYCLE / 2, STEP_BACK_IGNORED = 60,
+    WEEKS = 1024, WEEKS_13 = 8192, WEEK = 604800, STEP_BACK_IGNORED = 60,
     LINES = 16, SLOTS_MOST = 64, LINES_AT = 9, LINE_SIZE = 19, SLOTS_AT = 313, SLOT_SIZE = 320,
     LIMIT_MOST = 64, UNLISTED_LIMIT = 4, LEASE_LEAST = 60, LEASE_MOST = 7200, RETRY_AFTER = 60
 };
 
-enum { CLOCK = 1, UNUSED, LISTED, FREE, PENDING, ESTABLISHED };
+enum { CLOCK = 1, UNUSED, LISTED, FREE, PENDING, ESTABLISHED, CLOCK_13 = 9 };
 
-/* Places in the table, in a roster line and in a slot, each counted from its byte of kind. */
-enum { PLACE_AT = 1, RUNNING_AT = 5 };
+/*
+ * Places in the table, in a roster line and in a slot, each counted from its byte of kind. With thirteen-bit weeks the clock's
+ * place begins with WIDER bytes more, and all that is behind them lies so much further on.
+ */
+enum { PLACE_AT = 1, RUNNING_AT = 5, WIDER = 4 };
 enum { SHARE_AT = 17, LIMIT_AT = 18 };
 enum {
     ADDRESS_AT = 1, PORT_AT = 17, NUMBER_AT = 19, LEASE_AT = 27, STAMP_AT = 31, TYPE_AT = 35, NAME_LENGTH_AT = 39, NAME_AT = 40
@@ -78,7 +81,8 @@ static inline uint64_t capitals(uint64_t word)
 /* ---- a sound table */
 
 struct table {
-    uint8_t *bytes;
+    uint8_t *bytes;           /* the first byte, or with thirteen-bit weeks the one WIDER behind it: from it on both lie alike */
+    bool wide;                /* thirteen-bit weeks */
     size_t slots;
     size_t lines;             /* listed ones */
     unsigned free;            /* free slots */
@@ -133,12 +137,33 @@ static unsigned reserve_of(const struct table *t)
     return reserve;
 }
 
-/* The slots of a table of this length; 0 if no table has it. */
-static inline size_t slots_of(size_t length)
+/* What a length says: weeks, where things lie, slots. False if no table has it. */
+static inline bool lay_out(struct table *t, uint8_t *bytes, size_t length)
 {
-    if (length < LLQ_TABLE_SIZE(1) || length > LLQ_TABLE_SIZE(SLOTS_MOST) || (length - SLOTS_AT) % SLOT_SIZE != 0)
-        return 0;
-    return (length - SLOTS_AT) / SLOT_SIZE;
+    if (length < LLQ_TABLE_SIZE(1) || length > LLQ_TABLE_SIZE_13(SLOTS_MOST))
+        return false;
+    size_t wider = length & WIDER; /* a bit that neither 313 nor 320 has */
+    t->bytes = bytes + wider;
+    t->wide = wider != 0;
+    t->slots = (length - SLOTS_AT) / SLOT_SIZE;
+    return (length - SLOTS_AT) % SLOT_SIZE == wider;
+}
+
+static inline uint32_t weeks_of(const struct table *t) { return t->wide ? WEEKS_13 : WEEKS; }
+static inline int64_t cycle_of(const struct table *t) { return t->wide ? (int64_t)WEEKS_13 * WEEK : (int64_t)WEEKS * WEEK; }
+static inline uint8_t clock_kind(const struct table *t) { return t->wide ? CLOCK_13 : CLOCK; }
+
+static inline uint64_t get_place(const struct table *t)
+{
+    return t->wide ? get64(t->bytes + PLACE_AT - WIDER) : get32(t->bytes + PLACE_AT);
+}
+
+static inline void put_place(const struct table *t, uint64_t place)
+{
+    if (t->wide)
+        put64(t->bytes + PLACE_AT - WIDER, place);
+    else
+        put32(t->bytes + PLACE_AT, (uint32_t)place);
 }
 
 /* "listed addresses differ, 0 <= share <= limit, limit is 1 to 64, shares sum to at most n" */
@@ -211,19 +236,17 @@ static bool take_table(struct table *t, uint8_t *bytes, size_t length)
 {
     const uint8_t *entries[SLOTS_MOST];
     size_t count = 0;
-    t->bytes = bytes;
-    t->slots = slots_of(length);
-    if (t->slots == 0 || bytes[0] != CLOCK || get32(bytes + PLACE_AT) >= CYCLE)
+    if (!lay_out(t, bytes, length) || bytes[0] != clock_kind(t) || get_place(t) >= (uint64_t)cycle_of(t))
         return false;
-    const uint8_t *line = bytes + LINES_AT;
+    const uint8_t *line = t->bytes + LINES_AT;
     for (t->lines = 0; t->lines < LINES && line[0] == LISTED; line += LINE_SIZE)
         t->lines++;
     for (size_t i = t->lines; i < LINES; i++, line += LINE_SIZE)
         if (line[0] != UNUSED || !zeros(line + 1, LINE_SIZE - 1))
             return false;
-    if (!roster_good(bytes + LINES_AT, t->lines, t->slots))
+    if (!roster_good(t->bytes + LINES_AT, t->lines, t->slots))
         return false;
-    uint32_t running = get32(bytes + RUNNING_AT);
+    uint32_t running = get32(t->bytes + RUNNING_AT);
     for (size_t i = 0; i < t->slots; i++) {
         const uint8_t *slot = slot_of(t, i);
         if (slot[0] == FREE) {
@@ -241,9 +264,15 @@ static bool take_table(struct table *t, uint8_t *bytes, size_t length)
 
 /* ---- clock and run-out entries */
 
-static inline bool reading_good(uint32_t week, uint32_t second)
+static inline bool reading_good(const struct table *t, uint32_t week, uint32_t second)
 {
-    return week < WEEKS && second < WEEK;
+    return week < weeks_of(t) && second < WEEK;
+}
+
+/* The place of a good reading. */
+static inline uint64_t place_of(uint32_t week, uint32_t second)
+{
+    return (uint64_t)week * WEEK + second;
 }
 
 /*
@@ -252,19 +281,20 @@ static inline bool reading_good(uint32_t week, uint32_t second)
  */
 static uint32_t move_clock(struct table *t, uint32_t week, uint32_t second)
 {
-    uint32_t place = week * WEEK + second, running = get32(t->bytes + RUNNING_AT);
-    int32_t step = (int32_t)place - (int32_t)get32(t->bytes + PLACE_AT);
-    if (step >= HALF_CYCLE)
-        step -= CYCLE;
-    else if (step < -HALF_CYCLE)
-        step += CYCLE;
+    uint32_t running = get32(t->bytes + RUNNING_AT);
+    uint64_t place = place_of(week, second);
+    int64_t cycle = cycle_of(t), step = (int64_t)place - (int64_t)get_place(t);
+    if (step >= cycle / 2)
+        step -= cycle;
+    else if (step < -cycle / 2)
+        step += cycle;
     if (step < 0) {
         if (step < -STEP_BACK_IGNORED)
-            put32(t->bytes + PLACE_AT, place);
+            put_place(t, place);
         return running;
     }
     running += (uint32_t)step;
-    put32(t->bytes + PLACE_AT, place);
+    put_place(t, place);
     put32(t->bytes + RUNNING_AT, running);
     return running;
 }
@@ -518,22 +548,23 @@ static uint8_t *put_option(uint8_t *at, uint16_t opcode, struct outcome outcome)
 
 uint32_t llq_make(uint32_t week, uint32_t second, uint8_t *table, size_t table_len, const uint8_t *roster, size_t roster_len)
 {
-    size_t slots = slots_of(table_len), lines = roster_len / LINE_SIZE;
-    if (slots == 0)
+    struct table t;
+    size_t lines = roster_len / LINE_SIZE;
+    if (!lay_out(&t, table, table_len))
         return LLQ_TABLE;
-    if (!reading_good(week, second))
+    if (!reading_good(&t, week, second))
         return LLQ_READING;
-    if (lines > LINES || roster_len % LINE_SIZE != 0 || !roster_good(roster, lines, slots))
+    if (lines > LINES || roster_len % LINE_SIZE != 0 || !roster_good(roster, lines, t.slots))
         return LLQ_ROSTER;
     memset(table, 0, table_len);
-    table[0] = CLOCK;
-    put32(table + PLACE_AT, week * WEEK + second);
+    table[0] = clock_kind(&t);
+    put_place(&t, place_of(week, second));
     if (roster_len != 0)
-        memcpy(table + LINES_AT, roster, roster_len);
+        memcpy(t.bytes + LINES_AT, roster, roster_len);
     for (size_t i = lines; i < LINES; i++)
-        table[LINES_AT + i * LINE_SIZE] = UNUSED;
-    for (size_t i = 0; i < slots; i++)
-        table[SLOTS_AT + i * SLOT_SIZE] = FREE;
+        t.bytes[LINES_AT + i * LINE_SIZE] = UNUSED;
+    for (size_t i = 0; i < t.slots; i++)
+        slot_of(&t, i)[0] = FREE;
     return LLQ_DONE;
 }
 
@@ -542,7 +573,7 @@ struct llq_ticked llq_tick(uint32_t week, uint32_t second, uint8_t *table, size_
     struct table t;
     if (!take_table(&t, table, table_len))
         return (struct llq_ticked){LLQ_TABLE, 0};
-    if (!reading_good(week, second))
+    if (!reading_good(&t, week, second))
         return (struct llq_ticked){LLQ_READING, 0};
     return (struct llq_ticked){LLQ_DONE, free_run_out(&t, move_clock(&t, week, second))};
 }
@@ -555,7 +586,7 @@ struct llq_served llq_serve(uint32_t week, uint32_t second, uint64_t address_hig
     struct query q;
     if (!take_table(&t, table, table_len))
         return (struct llq_served){LLQ_TABLE, 0};
-    if (!reading_good(week, second))
+    if (!reading_good(&t, week, second))
         return (struct llq_served){LLQ_READING, 0};
     uint32_t refusal = read_query(&q, datagram, datagram_len);
     if (refusal != LLQ_DONE)

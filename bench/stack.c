@@ -11,12 +11,13 @@
 
 #include "../include/llq.h"
 
-enum { SLOTS = 64, CLIENTS = 8, QUESTIONS = 8, LINE = LLQ_ROSTER_RECORD, OPTION = 22, STACK = 1 << 20, WEEK = 300, NOW = 200000 };
+enum { SLOTS = 64, CLIENTS = 8, QUESTIONS = 8, LINE = LLQ_ROSTER_RECORD, OPTION = 22, STACK = 1 << 20, NOW = 200000 };
 enum { SETUP = 1, REFRESH = 2 };
 
 static _Alignas(4096) uint8_t stack[STACK];
-static uint8_t table[LLQ_TABLE_SIZE(SLOTS)], roster[CLIENTS * LINE], datagram[LLQ_REPLY_MOST], reply[LLQ_REPLY_MOST];
-static size_t datagram_length;
+static uint8_t table[LLQ_TABLE_SIZE_13(SLOTS)], roster[CLIENTS * LINE], datagram[LLQ_REPLY_MOST], reply[LLQ_REPLY_MOST];
+static size_t table_length, datagram_length;
+static uint32_t week;
 static unsigned client;
 static uint64_t numbers[CLIENTS][QUESTIONS];
 static size_t deepest; /* of llq_serve */
@@ -75,13 +76,13 @@ static void write_query(uint16_t opcode, const uint64_t *known, uint32_t lease)
 /* ---- calls */
 
 static uint32_t nothing(void) { return LLQ_DONE; }
-static uint32_t make(void) { return llq_make(WEEK, NOW, table, sizeof table, roster, sizeof roster); }
-static uint32_t tick(void) { return llq_tick(WEEK, NOW, table, sizeof table).number; }
+static uint32_t make(void) { return llq_make(week, NOW, table, table_length, roster, sizeof roster); }
+static uint32_t tick(void) { return llq_tick(week, NOW, table, table_length).number; }
 
 static uint32_t serve(void)
 {
-    return llq_serve(WEEK, NOW, 0, UINT64_C(0xffffc0000200) + client, 5352, UINT64_C(0x9e3779b97f4a7c15) * (client + 1), datagram,
-                     datagram_length, table, sizeof table, reply, sizeof reply).number;
+    return llq_serve(week, NOW, 0, UINT64_C(0xffffc0000200) + client, 5352, UINT64_C(0x9e3779b97f4a7c15) * (client + 1), datagram,
+                     datagram_length, table, table_length, reply, sizeof reply).number;
 }
 
 /* ---- depth */
@@ -162,11 +163,14 @@ static void served_depth(const char *name, uint16_t opcode, const uint64_t *know
     deepest = depth > deepest ? depth : deepest;
 }
 
-int main(void)
+/* The depths on a table of this length, whose weeks have so many bits. */
+static void depths(size_t length, unsigned bits)
 {
-    for (unsigned i = 0; i < CLIENTS; i++)
-        memcpy(roster + i * LINE, (uint8_t[LINE]){3, [11] = 0xff, 0xff, 192, 0, 2, (uint8_t)i, QUESTIONS, QUESTIONS}, LINE);
-    printf("%-36s %7s\n", "call on a table of 64 slots", "bytes");
+    char title[40];
+    table_length = length;
+    week = (1u << bits) - 1;
+    snprintf(title, sizeof title, "table of %d slots, weeks of %u bits", SLOTS, bits);
+    printf("%-36s %7s\n", title, "bytes");
     depth_of("none: the thread's own", nothing);
     depth_of("make", make);
     for (client = 0; client < CLIENTS - 1; client++) {
@@ -179,6 +183,14 @@ int main(void)
     served_depth("serve, 8 repeated setups, full table", SETUP, NULL, 7200);
     served_depth("serve, 8 refreshes, full table", REFRESH, numbers[client], 3600);
     served_depth("serve, 8 ends, full table", REFRESH, numbers[client], 0);
+}
+
+int main(void)
+{
+    for (unsigned i = 0; i < CLIENTS; i++)
+        memcpy(roster + i * LINE, (uint8_t[LINE]){3, [11] = 0xff, 0xff, 192, 0, 2, (uint8_t)i, QUESTIONS, QUESTIONS}, LINE);
+    depths(LLQ_TABLE_SIZE(SLOTS), 10);
+    depths(LLQ_TABLE_SIZE_13(SLOTS), 13);
     printf("deepest stack use of llq_serve: %zu bytes\n", deepest);
     return 0;
 }

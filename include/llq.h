@@ -37,8 +37,8 @@ extern "C" {
 /* The number of an answer. Where several conditions hold, the lowest number is given. */
 enum llq_number {
     LLQ_DONE = 0,
-    LLQ_TABLE = 1,     /* the table is unsound; making: its length is not LLQ_TABLE_SIZE(1) to LLQ_TABLE_SIZE(64) */
-    LLQ_READING = 2,   /* week over 1023 or second over 604799 */
+    LLQ_TABLE = 1,     /* the table is unsound; making: its length is neither an LLQ_TABLE_SIZE nor an LLQ_TABLE_SIZE_13 of 1 to 64 */
+    LLQ_READING = 2,   /* week over 1023, or over 8191 on a table of LLQ_TABLE_SIZE_13; second over 604799 */
     LLQ_SIZE = 3,      /* the datagram has under 12 or over 1472 bytes */
     LLQ_HEADER = 4,    /* QR, OPCODE or TC not 0; QDCOUNT not 1 to 8; ANCOUNT or NSCOUNT not 0; ARCOUNT not 1 */
     LLQ_QUESTION = 5,  /* a question runs past the end, has a label byte of 64 or more, or a name over 255 bytes */
@@ -48,8 +48,14 @@ enum llq_number {
     LLQ_ROSTER = 9     /* the roster is not 0 to 16 good records */
 };
 
-/* A table of n slots, n from 1 to 64: a clock record of 9 bytes, 16 roster lines of 19 bytes, n slots of 320 bytes. */
+/*
+ * A table of n slots, n from 1 to 64: a clock record, 16 roster lines of 19 bytes, n slots of 320 bytes. Its clock goes by GPS
+ * weeks of ten bits (a record of kind 0x01, 9 bytes), or with LLQ_TABLE_SIZE_13 of thirteen (kind 0x09, 13 bytes). In every call
+ * the table's length alone says which; a record of the other kind is unsound. It is fixed when the table is made: a host that
+ * changes its receiver makes a new table.
+ */
 #define LLQ_TABLE_SIZE(n) ((size_t)313 + (size_t)320 * (size_t)(n))
+#define LLQ_TABLE_SIZE_13(n) ((size_t)317 + (size_t)320 * (size_t)(n))
 
 /* A roster record: a byte 0x03, the address (16 bytes), the share (1), the limit (1). */
 #define LLQ_ROSTER_RECORD 19
@@ -68,16 +74,17 @@ struct llq_ticked {
 };
 
 /*
- * Make a fresh table in `table`, whatever it held. A clock reading is a GPS week of ten bits (0 to 1023) and a second of that
- * week (0 to 604799). `roster` is 0 to 16 records end to end: addresses differ, share <= limit, limit is 1 to 64, and the
- * shares sum to at most the number of slots, which `table_len` gives. An address that is not listed has share 0 and limit 4.
- * Returns LLQ_DONE, 1, 2 or 9. Refused: the table keeps every byte.
+ * Make a fresh table in `table`, whatever it held. `table_len` gives the number of slots and the width of the weeks. A clock
+ * reading is a GPS week of ten bits (0 to 1023) or of thirteen (0 to 8191) and a second of that week (0 to 604799). A week below
+ * 1024 on a table of thirteen-bit weeks is that week: it is not taken for one of a later 1024. `roster` is 0 to 16 records end
+ * to end: addresses differ, share <= limit, limit is 1 to 64, and the shares sum to at most the number of slots. An address that
+ * is not listed has share 0 and limit 4. Returns LLQ_DONE, 1, 2 or 9. Refused: the table keeps every byte.
  */
 uint32_t llq_make(uint32_t week, uint32_t second, uint8_t *table, size_t table_len, const uint8_t *roster, size_t roster_len);
 
 /*
  * Move the table's clock to the reading and free the entries whose lease has run out. The table keeps one reading, and a new
- * one is a step from it, which around the 1024 weeks is less than half of them ahead or at most half back:
+ * one is a step from it, which around the 1024 or 8192 weeks is less than half of them ahead or at most half back:
  *  - ahead, or none: every entry grows older by the step, and the new reading is kept;
  *  - back by 60 seconds or less: nothing changes, and the old reading stays;
  *  - back by more: no entry grows older or younger, and the new reading is kept, so that leases run on from there.

@@ -34,9 +34,11 @@ static int64_t offset_now(void)
     }
 }
 
-static struct reading reading_of(int64_t seconds)
+/* GPS seconds as a reading in the table's weeks. */
+static struct reading reading_of(const struct table *table, int64_t seconds)
 {
-    struct reading reading = {(uint32_t)(seconds / WEEK % (CYCLE / WEEK)), (uint32_t)(seconds % WEEK)};
+    seconds %= cycle_of(table);
+    struct reading reading = {(uint32_t)(seconds / WEEK), (uint32_t)(seconds % WEEK)};
     return reading;
 }
 
@@ -71,25 +73,25 @@ enum clock clock_set(time_t saved, const char *path, char *reason)
 /* The step from the table's place to a reading's, by document 01's rule. */
 static int64_t step_to(const struct table *table, int64_t seconds)
 {
-    int64_t step = (seconds - (int64_t)number_at(table->bytes + PLACE_AT, 4)) % CYCLE;
-    step += step < -CYCLE / 2 ? CYCLE : 0;
-    return step - (step >= CYCLE / 2 ? CYCLE : 0);
+    int64_t cycle = cycle_of(table), step = (seconds - (int64_t)place_of(table)) % cycle;
+    step += step < -cycle / 2 ? cycle : 0;
+    return step - (step >= cycle / 2 ? cycle : 0);
 }
 
 /*
  * How long ago a table was saved: by its own clock, or by its file's time, whichever is less. A table may have been saved
  * under a clock that was set wrong when the host started, and then its own clock is wrong too; its file's time is not, once
  * the system's clock was set right. A table that is ahead of the clock by more than BACK_MOST does not count; one that is
- * less ahead, or a file that is ahead, was saved just now. Half a cycle or more would be a step back to the library.
+ * less ahead, or a file that is ahead, was saved just now. Half a cycle or more (`half`) would be a step back to the library.
  * A save at the turn of a second has a file's time that is one later than its table: the table's own clock counts then, or a
  * panel's answer with what it was told to be left before a restart would be less than what is left after it, and refused.
  */
-static int64_t passed_since(int64_t by_table, int64_t by_file)
+static int64_t passed_since(int64_t by_table, int64_t by_file, int64_t half)
 {
     int64_t passed = by_table >= -BACK_MOST && by_table <= by_file + 1 ? by_table : by_file;
     if (passed < 0)
         return 0;
-    return passed < CYCLE / 2 ? passed : CYCLE / 2 - 1;
+    return passed < half ? passed : half - 1;
 }
 
 /* Readings are those of the system's clock. */
@@ -105,12 +107,12 @@ bool clock_start(const struct table *table, time_t saved)
     go_by_system();
     if (!table)
         return false;
-    int64_t step = step_to(table, gps(system)), passed = passed_since(step, by_file);
-    if (step < 0 && passed < CYCLE / 2 - 1)
+    int64_t half = cycle_of(table) / 2, step = step_to(table, gps(system)), passed = passed_since(step, by_file, half);
+    if (step < 0 && passed < half - 1)
         say("the system clock is %lld s behind the table's; leases go on from the table", (long long)-step);
     if (passed > STEP_MOST)
         say("%lld s have passed since the table was saved", (long long)passed);
-    start += (passed - step) * SECOND;
+    start += ((int64_t)place_of(table) + passed - gps(system)) * SECOND;
     return step < 0 || by_file < 0;
 }
 
@@ -124,20 +126,20 @@ void clock_back(struct table *table)
     int64_t system = gps(offset + now_of(CLOCK_BOOTTIME));
     if (step_to(table, system) >= -BACK_MOST)
         return;
-    struct reading now = reading_of(system);
+    struct reading now = reading_of(table, system);
     llq_tick(now.week, now.second, table->bytes, table->length);
     go_by_system();
 }
 
-struct reading clock_reading(void)
+struct reading clock_reading(const struct table *table)
 {
-    return reading_of((start + now_of(CLOCK_BOOTTIME)) / SECOND);
+    return reading_of(table, (start + now_of(CLOCK_BOOTTIME)) / SECOND);
 }
 
 struct reading clock_saved(const struct table *table, time_t saved)
 {
-    int64_t system = now_of(CLOCK_REALTIME), seconds = gps(system), step = step_to(table, seconds);
-    return reading_of(seconds + CYCLE + passed_since(step, system / SECOND - saved) - step);
+    int64_t system = now_of(CLOCK_REALTIME), step = step_to(table, gps(system));
+    return reading_of(table, (int64_t)place_of(table) + passed_since(step, system / SECOND - saved, cycle_of(table) / 2));
 }
 
 bool clock_watch(void)

@@ -37,17 +37,18 @@ const char *time_text(time_t seconds, char *text);
 
 /* ---- table.c: the bytes of a table (document 01's layout) */
 
+/* A clock record has its kind, its place and, in its last bytes, the running count; roster lines and slots stand behind it. */
 enum {
-    PLACE_AT = 1, RUNNING_AT = 5, LINES_AT = 9, LINE_SIZE = 19, SLOTS_AT = 313, SLOT_SIZE = 320,
+    CLOCK_SIZE = 9, CLOCK_SIZE_13 = 13, PLACE_AT = 1, RUNNING_SIZE = 4, LINE_SIZE = 19, SLOT_SIZE = 320,
     SHARE_AT = 17, LIMIT_AT = 18, UNLISTED_LIMIT = 4,
     ADDRESS_AT = 1, PORT_AT = 17, NUMBER_AT = 19, LEASE_AT = 27, STAMP_AT = 31, TYPE_AT = 35, CLASS_AT = 37, NAME_AT = 40,
     KIND_LISTED = 3, KIND_FREE = 4, KIND_ESTABLISHED = 6,
-    CYCLE = 619315200, WEEK = 604800
+    WEEK = 604800
 };
 
 struct table {
     size_t length;
-    uint8_t bytes[LLQ_TABLE_SIZE(SLOTS_MOST) + 1]; /* one more, so that a file that is longer is seen to be */
+    uint8_t bytes[LLQ_TABLE_SIZE_13(SLOTS_MOST) + 1]; /* one more, so that a file that is longer is seen to be */
 };
 
 struct roster {
@@ -55,8 +56,19 @@ struct roster {
     uint8_t bytes[LINES_MOST * LINE_SIZE];
 };
 
-uint64_t number_at(const uint8_t *bytes, int width);
+uint64_t number_at(const uint8_t *bytes, size_t width);
+/* The length of a table with weeks of so many bits, 10 or 13. */
+size_t length_of(unsigned bits, size_t slots);
+/* What a table's length says: the bits of its weeks, the seconds of their cycle, the bytes of its clock record, its slots. */
+unsigned week_bits(const struct table *table);
+int64_t cycle_of(const struct table *table);
+size_t clock_size(const struct table *table);
 size_t slots_of(const struct table *table);
+/* The clock's place and its running count. */
+uint64_t place_of(const struct table *table);
+uint32_t running_of(const struct table *table);
+/* Where a slot begins, and its bytes. */
+size_t slot_at(const struct table *table, size_t index);
 const uint8_t *slot_of(const struct table *table, size_t index);
 /* The listed line at `index`, or NULL past the last. */
 const uint8_t *line_at(const struct table *table, size_t index);
@@ -115,8 +127,8 @@ enum clock clock_set(time_t saved, const char *path, char *reason);
 bool clock_start(const struct table *table, time_t saved);
 /* After the table's first tick: if the system's clock is more than a minute behind it, it goes back there, and readings too. */
 void clock_back(struct table *table);
-/* The reading at present, by the time since boot. */
-struct reading clock_reading(void);
+/* The reading at present, by the time since boot and in the table's weeks. */
+struct reading clock_reading(const struct table *table);
 /* The reading at which a saved table stands at present, for people. */
 struct reading clock_saved(const struct table *table, time_t saved);
 /* To be called once a second: logs a step of the system's clock; whether there was one. */

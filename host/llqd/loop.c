@@ -19,21 +19,22 @@ static struct reading now;
 
 /* ---- ticks */
 
-static uint32_t seconds_since(struct reading before)
+static int64_t seconds_since(struct reading before)
 {
-    return (CYCLE + now.week * WEEK + now.second - before.week * WEEK - before.second) % CYCLE;
+    int64_t cycle = cycle_of(table), weeks = (int64_t)now.week - before.week;
+    return (cycle + weeks * WEEK + now.second - before.second) % cycle;
 }
 
 /* Moves the table to the present once a second, so that a served datagram finds no entry run out; whether it was time. */
 static bool tick(void)
 {
     struct reading before = now;
-    now = clock_reading();
-    uint32_t passed = seconds_since(before);
+    now = clock_reading(table);
+    int64_t passed = seconds_since(before);
     if (passed == 0)
         return false;
     if (passed > LATE)
-        say("%u s since the last tick", passed);
+        say("%lld s since the last tick", (long long)passed);
     struct llq_ticked done = llq_tick(now.week, now.second, table->bytes, table->length);
     if (done.number != LLQ_DONE)
         die("a tick was refused with %u", done.number);
@@ -192,7 +193,7 @@ void run(struct table *the_table, const struct settings *the_settings, const str
         ready[i + 2] = (struct pollfd){.fd = endpoints[i].socket, .events = POLLIN};
     table = the_table;
     settings = the_settings;
-    now = clock_reading();
+    now = clock_reading(table);
     keep_changed(table);
     keep_save(table, true);
     for (bool on = true; on;) {

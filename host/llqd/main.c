@@ -13,19 +13,20 @@
 
 struct options {
     const char *addresses[SOCKETS_MOST], *port, *show;
-    size_t count, slots; /* slots 0: not given */
-    unsigned clock_wait;
+    size_t count, slots;            /* slots 0: not given */
+    unsigned week_bits, clock_wait; /* bits 0: not given */
     struct settings settings;
 };
 
 static void usage(void)
 {
-    fputs("usage: llqd [--address ADDRESS].. [--port PORT] [--slots N] [--roster FILE] [--state FILE]\n"
+    fputs("usage: llqd [--address ADDRESS].. [--port PORT] [--slots N] [--weeks BITS] [--roster FILE] [--state FILE]\n"
           "            [--clock-wait SECONDS] [--verbose]\n"
           "       llqd --show FILE\n"
           "  --address     where to listen, IPv4 or IPv6, up to 8 times (127.0.0.1)\n"
           "  --port        UDP port (5352)\n"
           "  --slots       entries that the table can hold, 1 to 64 (16, or those of the state file)\n"
+          "  --weeks       bits of the GPS weeks by which a new table goes, 10 or 13 (10, or those of the state file)\n"
           "  --roster      lines ADDRESS SHARE LIMIT; '#' starts a comment; read anew on SIGHUP\n"
           "  --state       keep the table in this file and take it up again at start\n"
           "  --clock-wait  how long to wait at start for a system clock that is not set yet (300)\n"
@@ -44,6 +45,14 @@ static unsigned option_number(const char *text, const char *option, int least, i
     return (unsigned)value;
 }
 
+static unsigned bits_of(const char *text)
+{
+    int bits = number_of(text, 10, 13);
+    if (bits != 10 && bits != 13)
+        die("--weeks '%s' is not 10 or 13", text);
+    return (unsigned)bits;
+}
+
 static const char *file_of(const char *text, const char *option)
 {
     if (!*text)
@@ -54,8 +63,9 @@ static const char *file_of(const char *text, const char *option)
 static void read_options(int argc, char **argv, struct options *options)
 {
     static const struct option names[] = {
-        {"address", 1, 0, 'a'}, {"port", 1, 0, 'p'}, {"slots", 1, 0, 'n'}, {"roster", 1, 0, 'r'}, {"state", 1, 0, 's'},
-        {"clock-wait", 1, 0, 'w'}, {"verbose", 0, 0, 'v'}, {"show", 1, 0, 'o'}, {"version", 0, 0, 'V'}, {"help", 0, 0, 'h'}, {0, 0, 0, 0}};
+        {"address", 1, 0, 'a'}, {"port", 1, 0, 'p'}, {"slots", 1, 0, 'n'}, {"weeks", 1, 0, 'b'}, {"roster", 1, 0, 'r'},
+        {"state", 1, 0, 's'}, {"clock-wait", 1, 0, 'w'}, {"verbose", 0, 0, 'v'}, {"show", 1, 0, 'o'}, {"version", 0, 0, 'V'},
+        {"help", 0, 0, 'h'}, {0, 0, 0, 0}};
     for (int o; (o = getopt_long(argc, argv, ":h", names, NULL)) != -1;)
         switch (o) {
         case 'a':
@@ -65,6 +75,7 @@ static void read_options(int argc, char **argv, struct options *options)
             break;
         case 'p': option_number(options->port = optarg, "port", 1, 65535); break;
         case 'n': options->slots = option_number(optarg, "slots", 1, SLOTS_MOST); break;
+        case 'b': options->week_bits = bits_of(optarg); break;
         case 'r': options->settings.roster_path = file_of(optarg, "roster"); break;
         case 's': options->settings.state_path = file_of(optarg, "state"); break;
         case 'w': options->clock_wait = option_number(optarg, "clock-wait", 0, 1000000); break;
@@ -155,12 +166,12 @@ static void wait_for_clock(const struct options *options, int signals)
 static void make_table(const struct options *options, const struct roster *roster, struct table *table)
 {
     const char *path = options->settings.state_path;
-    struct reading now = clock_reading();
     size_t slots = options->slots ? options->slots : 16, shares = shares_of(roster);
     int error;
     if (shares > slots)
         die("%s: the shares sum to %zu, over the %zu slots", options->settings.roster_path, shares, slots);
-    table->length = LLQ_TABLE_SIZE(slots);
+    table->length = length_of(options->week_bits ? options->week_bits : 10, slots);
+    struct reading now = clock_reading(table);
     uint32_t number = llq_make(now.week, now.second, table->bytes, table->length, roster->bytes, roster->length);
     if (number != LLQ_DONE)
         die("making the table was refused with %u", number);
@@ -173,7 +184,7 @@ static void make_table(const struct options *options, const struct roster *roste
 static void take_up(const struct options *options, const struct roster *roster, struct table *table)
 {
     static struct table fresh;
-    struct reading now = clock_reading();
+    struct reading now = clock_reading(table);
     struct roster old = roster_of(table);
     size_t slots = options->slots ? options->slots : slots_of(table);
     char reason[REASON_SIZE];
@@ -203,12 +214,23 @@ static struct roster start_roster(const char *path)
     return roster;
 }
 
+/* Takes the state file up: false if there is none. Dies if its weeks are not those that are asked for. */
+static bool open_state(const struct options *options, struct table *table)
+{
+    const char *path = options->settings.state_path;
+    if (!path || !state_open(path, table))
+        return false;
+    unsigned bits = week_bits(table);
+    if (options->week_bits && options->week_bits != bits)
+        die("%s: its weeks have %u bits, not %u; it is left as it is", path, bits, options->week_bits);
+    return true;
+}
+
 /* The table's start, from the state file if there is one; `saved` becomes the file's. Whether there was one. */
 static bool start_table(const struct options *options, int signals, struct table *table, struct table *saved)
 {
-    const char *path = options->settings.state_path;
     struct roster roster = start_roster(options->settings.roster_path);
-    bool kept = path && state_open(path, saved);
+    bool kept = open_state(options, saved);
     wait_for_clock(options, signals);
     roster = start_roster(options->settings.roster_path); /* it may have changed meanwhile */
     if (clock_start(kept ? saved : NULL, state_time()))

@@ -8,7 +8,7 @@ struct roster roster_of(const struct table *table)
     struct roster roster = {0};
     while (line_at(table, roster.length / LINE_SIZE))
         roster.length += LINE_SIZE;
-    memcpy(roster.bytes, table->bytes + LINES_AT, roster.length);
+    memcpy(roster.bytes, table->bytes + clock_size(table), roster.length);
     return roster;
 }
 
@@ -32,18 +32,19 @@ static void put_entries(const struct table *old, struct table *fresh)
     for (size_t i = 0, next = 0; i < slots_of(old); i++)
         if (slot_of(old, i)[0] != KIND_FREE) {
             size_t to = in_place ? i : next++;
-            memcpy(fresh->bytes + SLOTS_AT + to * SLOT_SIZE, slot_of(old, i), SLOT_SIZE);
+            memcpy(fresh->bytes + slot_at(fresh, to), slot_of(old, i), SLOT_SIZE);
         }
 }
 
-/* A making with the new roster and at the old place, then the old clock and entries. False if the making is refused. */
+/* A making with the new roster, the old weeks and at the old place, then the old clock and entries. False if it is refused. */
 static bool build(const struct table *old, size_t slots, const struct roster *roster, struct table *fresh)
 {
-    uint32_t place = (uint32_t)number_at(old->bytes + PLACE_AT, 4);
-    fresh->length = LLQ_TABLE_SIZE(slots);
-    if (llq_make(place / WEEK, place % WEEK, fresh->bytes, fresh->length, roster->bytes, roster->length) != LLQ_DONE)
+    uint64_t place = place_of(old);
+    uint32_t week = (uint32_t)(place / WEEK), second = (uint32_t)(place % WEEK);
+    fresh->length = length_of(week_bits(old), slots);
+    if (llq_make(week, second, fresh->bytes, fresh->length, roster->bytes, roster->length) != LLQ_DONE)
         return false;
-    memcpy(fresh->bytes, old->bytes, LINES_AT);
+    memcpy(fresh->bytes, old->bytes, clock_size(old));
     put_entries(old, fresh);
     return true;
 }

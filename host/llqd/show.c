@@ -122,10 +122,10 @@ static int address_width(const struct table *table)
 void show_table(FILE *out, struct table *table, struct reading now, const char *title)
 {
     struct llq_ticked ticked = llq_tick(now.week, now.second, table->bytes, table->length);
-    uint32_t running = (uint32_t)number_at(table->bytes + RUNNING_AT, 4);
+    uint32_t running = running_of(table);
     size_t slots = slots_of(table), used = entries_of(table);
     int width = address_width(table);
-    fprintf(out, "table of %zu slots, %s\n", slots, title);
+    fprintf(out, "table of %zu slots, weeks of %u bits, %s\n", slots, week_bits(table), title);
     print_holders(out, table, width);
     if (used)
         fprintf(out, "entries:\n  %-*s   PORT  STATE        NUMBER            LEASE    LEFT     QUESTION\n", width, "ADDRESS");

@@ -4,27 +4,62 @@
 
 #include "llqd.h"
 
-uint64_t number_at(const uint8_t *bytes, int width)
+uint64_t number_at(const uint8_t *bytes, size_t width)
 {
     uint64_t value = 0;
-    for (int i = 0; i < width; i++)
+    for (size_t i = 0; i < width; i++)
         value = value << 8 | bytes[i];
     return value;
 }
 
+size_t length_of(unsigned bits, size_t slots)
+{
+    return bits == 13 ? LLQ_TABLE_SIZE_13(slots) : LLQ_TABLE_SIZE(slots);
+}
+
+unsigned week_bits(const struct table *table)
+{
+    return table->length % SLOT_SIZE == LLQ_TABLE_SIZE_13(0) % SLOT_SIZE ? 13 : 10;
+}
+
+int64_t cycle_of(const struct table *table)
+{
+    return (int64_t)WEEK << week_bits(table);
+}
+
+size_t clock_size(const struct table *table)
+{
+    return week_bits(table) == 13 ? CLOCK_SIZE_13 : CLOCK_SIZE;
+}
+
 size_t slots_of(const struct table *table)
 {
-    return (table->length - SLOTS_AT) / SLOT_SIZE;
+    return (table->length - slot_at(table, 0)) / SLOT_SIZE;
+}
+
+uint64_t place_of(const struct table *table)
+{
+    return number_at(table->bytes + PLACE_AT, clock_size(table) - RUNNING_SIZE - PLACE_AT);
+}
+
+uint32_t running_of(const struct table *table)
+{
+    return (uint32_t)number_at(table->bytes + clock_size(table) - RUNNING_SIZE, RUNNING_SIZE);
+}
+
+size_t slot_at(const struct table *table, size_t index)
+{
+    return clock_size(table) + LINES_MOST * LINE_SIZE + index * SLOT_SIZE;
 }
 
 const uint8_t *slot_of(const struct table *table, size_t index)
 {
-    return table->bytes + SLOTS_AT + index * SLOT_SIZE;
+    return table->bytes + slot_at(table, index);
 }
 
 const uint8_t *line_at(const struct table *table, size_t index)
 {
-    const uint8_t *line = table->bytes + LINES_AT + index * LINE_SIZE;
+    const uint8_t *line = table->bytes + clock_size(table) + index * LINE_SIZE;
     return index < LINES_MOST && line[0] == KIND_LISTED ? line : NULL;
 }
 
@@ -90,14 +125,15 @@ const uint8_t *entry_of(const struct table *table, uint64_t number)
 
 bool same_table(const struct table *one, const struct table *other)
 {
-    return one->length == other->length && memcmp(one->bytes + LINES_AT, other->bytes + LINES_AT, one->length - LINES_AT) == 0;
+    size_t clock = clock_size(one);
+    return one->length == other->length && memcmp(one->bytes + clock, other->bytes + clock, one->length - clock) == 0;
 }
 
 /* A tick at the table's own place changes nothing of a sound table, and is refused by any other. */
 bool sound(struct table *table)
 {
-    uint32_t place = table->length < LLQ_TABLE_SIZE(1) ? 0 : (uint32_t)number_at(table->bytes + PLACE_AT, 4);
-    return llq_tick(place / WEEK % (CYCLE / WEEK), place % WEEK, table->bytes, table->length).number == LLQ_DONE;
+    uint64_t place = table->length < LLQ_TABLE_SIZE(1) ? 0 : place_of(table) % (uint64_t)cycle_of(table);
+    return llq_tick((uint32_t)(place / WEEK), (uint32_t)(place % WEEK), table->bytes, table->length).number == LLQ_DONE;
 }
 
 const char *address_text(const uint8_t *address, char *text)

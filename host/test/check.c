@@ -8,8 +8,8 @@
 
 #include "client.h"
 
-/* Places in a table and in a slot (document 01's layout). */
-enum { RUNNING_AT = 5, SLOTS_AT = 313, SLOT_SIZE = 320, SLOTS_MOST = 64 };
+/* Places in a table and in a slot (document 01's layout). With thirteen-bit weeks the table's lie WIDER bytes further on. */
+enum { RUNNING_AT = 5, SLOTS_AT = 313, SLOT_SIZE = 320, SLOTS_MOST = 64, WIDER = 4 };
 enum { ADDRESS_AT = 1, PORT_AT = 17, NUMBER_AT = 19, LEASE_AT = 27, STAMP_AT = 31, NAME_AT = 40 };
 enum { RECORDS_MOST = 512, OPEN_MOST = 2 };
 
@@ -120,7 +120,7 @@ static int same(struct state found, struct state wanted)
 
 int check(const char *table_path, const char *log_path)
 {
-    static uint8_t table[SLOTS_AT + SLOTS_MOST * SLOT_SIZE + 1];
+    static uint8_t table[SLOTS_AT + WIDER + SLOTS_MOST * SLOT_SIZE + 1];
     unsigned open_now = 0, held = 0, oldest = 0;
     struct stat about;
     recall(log_path);
@@ -132,13 +132,14 @@ int check(const char *table_path, const char *log_path)
         die("check: %s cannot be opened", table_path);
     size_t length = fread(table, 1, sizeof table, file);
     fclose(file);
-    if (length < SLOTS_AT + SLOT_SIZE || length == sizeof table || (length - SLOTS_AT) % SLOT_SIZE)
+    size_t wider = (length - SLOTS_AT) % SLOT_SIZE;
+    if (length < SLOTS_AT + SLOT_SIZE || length == sizeof table || (wider != 0 && wider != WIDER))
         die("check: %s: %zu bytes are no table", table_path, length);
-    for (const uint8_t *slot = table + SLOTS_AT; slot < table + length; slot += SLOT_SIZE)
+    for (const uint8_t *slot = table + SLOTS_AT + wider; slot < table + length; slot += SLOT_SIZE)
         if (slot[0] < FREE || slot[0] > ESTABLISHED)
             die("check: %s: a slot of kind %u", table_path, slot[0]);
         else if (slot[0] != FREE)
-            read_slot(slot, (uint32_t)get(table + RUNNING_AT, 4));
+            read_slot(slot, (uint32_t)get(table + RUNNING_AT + wider, 4));
     double saved = (double)about.st_mtim.tv_sec + (double)about.st_mtim.tv_nsec / 1e9, off_most = 0;
     for (struct record *r = records; r < records + record_count; r++) {
         held += r->found.kind != FREE;

@@ -4,50 +4,9 @@
 . "$(dirname "$0")/lib.sh"
 need faketime faketime || { left_out 'all of it: libfaketime (faketime) cannot be had'; passed; }
 alone
-preload=$(ls /usr/lib/*/faketime/libfaketimeMT.so.1 2>/dev/null | head -n 1)
-[ -n "$preload" ] || { left_out 'all of it: libfaketimeMT.so.1 is not there'; passed; }
-
-clock() { printf '%+d\n' "$1" >"$work/time.new" && mv "$work/time.new" "$work/time"; }
-# at DATE: how far the clock is to be moved so that it reads DATE now
-at() { printf '%+d' $(($(date -d "$1" +%s) - EPOCHSECONDS)); }
-moved=(env LD_PRELOAD="$preload" FAKETIME_TIMESTAMP_FILE="$work/time" FAKETIME_NO_CACHE=1 NO_FAKE_STAT=1)
-under=("${moved[@]}" FAKETIME_DONT_FAKE_MONOTONIC=1)
+movable || { left_out 'all of it: libfaketimeMT.so.1 is not there'; passed; }
 clock +86400
 like 'the clock can be moved' "$(($("${under[@]}" date +%s) - EPOCHSECONDS))" '8639[89]|8640[0-2]'
-file() { stat -c '%i %Y %s' "$table" && sha256sum <"$table"; }
-# later SECONDS: the file's time as it were had the clock been so far ahead when it was saved
-later() { touch -d "@$(($(stat -c %Y "$table") + $1))" "$table"; }
-stamp() { stat -c '%i %y' "$table"; }
-again() { [ "$(stamp)" != "$saved" ]; }
-# gps TIME: seconds of the cycle of the ten-bit week; place: where the saved table stands in it
-cycle=619315200
-gps() { echo $((($1 - 315964800 + 18) % cycle)); }
-place() { od -An --endian=big -tu4 -j1 -N4 "$table" | tr -d ' '; }
-# put PLACE TIME: another place, and the file's time
-put() {
-    printf "$(printf '%08x' $(($1 % cycle)) | sed 's/../\\x&/g')" | dd of="$table" bs=1 seek=1 conv=notrunc status=none
-    touch -d "@$2" "$table"
-}
-saved_again() { await 5 again || fail "$1: the table was not saved again"; }
-# went_back WHAT [MOVED]: it was saved again since $began, and its place is that of the clock, which is moved so far
-went_back() {
-    saved_again "$1"
-    between "$1: its place" "$(place)" "$(gps $((began + ${2:-0})))" "$(gps $((EPOCHSECONDS + 1 + ${2:-0})))"
-}
-# go_on WHAT: a setup again is told less each time
-go_on() {
-    local one=($(llq 127.0.0.2 18501 a.example 1 0 60)) two
-    sleep 1.1
-    two=($(llq 127.0.0.2 18501 a.example 1 0 60))
-    is "$1: told again" "${one[*]:0:2}, ${two[*]:0:2}" "0 $sign, 0 $sign"
-    between "$1: told less" "${two[2]}" $((one[2] - 30)) $((one[2] - 1))
-}
-# told: what is left, by a response with what a setup again was told; that is as much, or some seconds more
-told() {
-    local again=$(llq 127.0.0.2 18501 a.example 1 0 60 | cut -d ' ' -f 3)
-    set -- $(llq 127.0.0.2 18501 a.example 1 $sign "${again:-0}")
-    [ "${1:-4}" = 0 ] && [ $((again - $3)) -le 3 ] && echo "$3" || echo "${again:-none}, then $*"
-}
 date='[0-9]{4}-[0-9]{2}-[0-9]{2} [0-9]{2}:[0-9]{2}:[0-9]{2} UTC'
 day='86(39[89]|40[0-2])'
 

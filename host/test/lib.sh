@@ -120,6 +120,16 @@ said() { timeout -k 2 10 ${under[@]+"${under[@]}"} "$LLQD" "$@" 2>&1 </dev/null;
 # refused WHAT LINE OPTION..: it says this one line, and exit 1
 refused() { is "$1" "$(said "${@:3}")" "llqd: $2"$'\nexit 1'; }
 
+# unsound WHAT NAME: the file of this name is refused as not sound, and left as it is; then it is removed
+unsound() {
+    local sum=$(stat -c '%i %Y' "$work/$2"; head -c 100000 "$work/$2" | sha256sum)
+    refused "$1" "$work/$2: not a sound table; it is left as it is" --port $port --state "$work/$2"
+    refused "$1: --show" "$work/$2: not a sound table; it is left as it is" --show "$work/$2"
+    is "$1: the file" "$(stat -c '%i %Y' "$work/$2"; head -c 100000 "$work/$2" | sha256sum)" "$sum"
+    is "$1: no other file" "$(ls "$work" | grep -c "^$2")" 1
+    rm "$work/$2"
+}
+
 # ---- its client
 
 option() { printf '%04x%04x%04x%016x%08x' "${4:-1}" "$1" "${5:-0}" "$2" "$3"; }
@@ -186,3 +196,61 @@ entries() { show "$@" | awk '/^entries:/ { on = 1; next } /^slots:/ { on = 0 } o
 # left PORT [FILE]: seconds that its entry has left
 left() { show "${@:2}" | awk -v port="$1" '$2 == port && split($6, t, ":") == 3 { print t[1] * 3600 + t[2] * 60 + t[3] }'; }
 used() { show "$@" | sed -n 's/^slots: .* used \([0-9]*\),.*/\1/p'; }
+
+# ---- its file
+
+file() { stat -c '%i %Y %s' "${1:-$table}" && sha256sum <"${1:-$table}"; }
+# later SECONDS: the file's time as it were had the clock been so far ahead when it was saved
+later() { touch -d "@$(($(stat -c %Y "$table") + $1))" "$table"; }
+stamp() { stat -c '%i %y' "$table"; }
+# saved_again WHAT: it was saved since $saved, or is
+new_stamp() { [ "$(stamp)" != "$saved" ]; }
+saved_again() { await 5 new_stamp || fail "$1: the table was not saved again"; }
+# bytes AT HEX [FILE]: these bytes there
+bytes() { printf "$(sed 's/../\\x&/g' <<<"$2")" | dd of="${3:-$table}" bs=1 seek="$1" conv=notrunc status=none; }
+
+# ---- its clock
+
+# weeks_of BITS: the weeks of the table under test; $cycle is their seconds, $place_size the bytes of a place
+weeks_of() { cycle=$((604800 << $1)) place_size=$(($1 == 13 ? 8 : 4)); }
+weeks_of 10
+# gps TIME: seconds of the cycle; place: where the saved table stands in it
+gps() { echo $((($1 - 315964800 + 18) % cycle)); }
+place() { od -An --endian=big -tu$place_size -j1 -N$place_size "$table" | tr -d ' '; }
+# put PLACE TIME: another place, and the file's time
+put() {
+    bytes 1 "$(printf "%0$((2 * place_size))x" $(($1 % cycle)))"
+    touch -d "@$2" "$table"
+}
+
+# movable: the system's clock can be moved; the host is started with what moves it, the time since boot stays true
+movable() {
+    local preload
+    preload=$(ls /usr/lib/*/faketime/libfaketimeMT.so.1 2>/dev/null | head -n 1)
+    [ -n "$preload" ] || return
+    moved=(env LD_PRELOAD="$preload" FAKETIME_TIMESTAMP_FILE="$work/time" FAKETIME_NO_CACHE=1 NO_FAKE_STAT=1)
+    under=("${moved[@]}" FAKETIME_DONT_FAKE_MONOTONIC=1)
+}
+clock() { printf '%+d\n' "$1" >"$work/time.new" && mv "$work/time.new" "$work/time"; }
+# at DATE: how far the clock is to be moved so that it reads DATE now
+at() { printf '%+d' $(($(date -d "$1" +%s) - EPOCHSECONDS)); }
+
+# went_back WHAT [MOVED]: it was saved again since $began, and its place is that of the clock, which is moved so far
+went_back() {
+    saved_again "$1"
+    between "$1: its place" "$(place)" "$(gps $((began + ${2:-0})))" "$(gps $((EPOCHSECONDS + 1 + ${2:-0})))"
+}
+# go_on WHAT: a setup again, of the entry of number $sign, is told less each time
+go_on() {
+    local one=($(llq 127.0.0.2 18501 a.example 1 0 60)) two
+    sleep 1.1
+    two=($(llq 127.0.0.2 18501 a.example 1 0 60))
+    is "$1: told again" "${one[*]:0:2}, ${two[*]:0:2}" "0 $sign, 0 $sign"
+    between "$1: told less" "${two[2]}" $((one[2] - 30)) $((one[2] - 1))
+}
+# told: what is left, by a response with what a setup again was told; that is as much, or some seconds more
+told() {
+    local again=$(llq 127.0.0.2 18501 a.example 1 0 60 | cut -d ' ' -f 3)
+    set -- $(llq 127.0.0.2 18501 a.example 1 $sign "${again:-0}")
+    [ "${1:-4}" = 0 ] && [ $((again - $3)) -le 3 ] && echo "$3" || echo "${again:-none}, then $*"
+}

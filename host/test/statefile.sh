@@ -42,14 +42,6 @@ is 'all are as they were' "$(cd "$work" && stat -c '%n %F' link dangling fifo fo
 is 'the link'\''s file is as it was' "$(sha256sum <"$table")" "$good"
 
 # ---- not a sound table
-unsound() {
-    local sum=$(stat -c '%i %Y' "$work/$2"; head -c 100000 "$work/$2" | sha256sum)
-    refused "$1" "$work/$2: not a sound table; it is left as it is" --port $port --state "$work/$2"
-    refused "$1: --show" "$work/$2: not a sound table; it is left as it is" --show "$work/$2"
-    is "$1: the file" "$(stat -c '%i %Y' "$work/$2"; head -c 100000 "$work/$2" | sha256sum)" "$sum"
-    is "$1: no other file" "$(ls "$work" | grep -c "^$2")" 1
-    rm "$work/$2"
-}
 : >"$work/empty" && unsound 'an empty file' empty
 head -c 1592 "$table" >"$work/short" && unsound 'a byte too short' short
 head -c 1273 "$table" | tail -c 1000 >"$work/part" && unsound 'a part' part

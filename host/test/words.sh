@@ -105,11 +105,11 @@ is 'the counters' "$(sed -n '2,9p' <<<"$squeezed")" " datagrams 40: answered 34,
  entries run out 0
  replies held 10, dropped 0, not sent 0"
 like 'the counters: saves' "$(sed -n 10p <<<"$squeezed")" ' saves ([3-9]|1[0-9]), failed 0, longest [0-9]\.[0-9]{3} s'
-is 'the table now' "$(sed -n 11p <<<"$squeezed")" 'table of 7 slots, now:'
+is 'the table now' "$(sed -n 11p <<<"$squeezed")" 'table of 7 slots, weeks of 10 bits, now:'
 
 # ---- --show: the same table, in columns
 show >"$work/shown"
-like '--show: its first line' "$(head -n 1 "$work/shown")" "table of 7 slots, saved $date, 0:00:[0-5][0-9] ago"
+like '--show: its first line' "$(head -n 1 "$work/shown")" "table of 7 slots, weeks of 10 bits, saved $date, 0:00:[0-5][0-9] ago"
 rest() { sed -n '/^listed addresses:$/,$p' "$1" | sed 's/ [01]:[0-9][0-9]:[0-9][0-9]  \([a-z.]* IN\)/ LEFT \1/'; }
 is '--show and SIGUSR1 agree' "$(rest "$work/shown")" "$(rest "$log")"
 is '--show: holders' "$(sed -n '2,/^entries:/p' "$work/shown" | sed 's/  */ /g; s/ $//')" "listed addresses:
@@ -188,7 +188,7 @@ is '--version is llq.h'\''s' "$(sed -n 's/^#define LLQ_VERSION "\(.*\)".*/llqd \
 is '-h and --help' "$(said -h)" "$(said --help)"
 is '-h: exit 0, nothing on stderr' "$("$LLQD" -h 2>&1 >/dev/null; echo $?)" 0
 like '-h' "$("$LLQD" -h)" 'usage: llqd .*'
-for one in address port slots roster state clock-wait verbose show version; do
+for one in address port slots weeks roster state clock-wait verbose show version; do
     like "-h: --$one is there" "$("$LLQD" -h | grep -c -- "--$one\b")" '[1-9]'
 done
 refused 'a port too large' "--port '65536' is not a number from 1 to 65535" --port 65536
