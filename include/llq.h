@@ -28,7 +28,7 @@
 #include <stdint.h>
 
 /* Of the header, the archive and the host together. */
-#define LLQ_VERSION "0.4.0"
+#define LLQ_VERSION "0.5.0"
 
 #ifdef __cplusplus
 extern "C" {

@@ -132,8 +132,8 @@ int check(const char *table_path, const char *log_path)
         die("check: %s cannot be opened", table_path);
     size_t length = fread(table, 1, sizeof table, file);
     fclose(file);
-    size_t wider = (length - SLOTS_AT) % SLOT_SIZE;
-    if (length < SLOTS_AT + SLOT_SIZE || length == sizeof table || (wider != 0 && wider != WIDER))
+    size_t wider = length < SLOTS_AT + SLOT_SIZE ? SLOT_SIZE : (length - SLOTS_AT) % SLOT_SIZE;
+    if (length == sizeof table || (wider != 0 && wider != WIDER))
         die("check: %s: %zu bytes are no table", table_path, length);
     for (const uint8_t *slot = table + SLOTS_AT + wider; slot < table + length; slot += SLOT_SIZE)
         if (slot[0] < FREE || slot[0] > ESTABLISHED)

@@ -183,7 +183,7 @@ is 'without --verbose: nothing is said' "$(cat "$log")" \
 end TERM
 
 # ---- --version, -h, errors of options: one line each
-is '--version' "$(said --version)" $'llqd 0.4.0\nexit 0'
+is '--version' "$(said --version)" $'llqd 0.5.0\nexit 0'
 is '--version is llq.h'\''s' "$(sed -n 's/^#define LLQ_VERSION "\(.*\)".*/llqd \1/p' "$(dirname "$0")/../../include/llq.h")" "$("$LLQD" --version)"
 is '-h and --help' "$(said -h)" "$(said --help)"
 is '-h: exit 0, nothing on stderr' "$("$LLQD" -h 2>&1 >/dev/null; echo $?)" 0

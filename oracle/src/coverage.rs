@@ -174,7 +174,7 @@ impl Mark {
         (Mark::WideSixtyFourSlots, "13 bits: n = 64"),
     ];
 
-    /// A place that lists on tables with weeks of ten bits cannot reach.
+    /// A mark that lists on tables with weeks of ten bits cannot reach.
     fn is_wide(self) -> bool {
         self as usize >= Mark::WideStepLongest as usize
     }

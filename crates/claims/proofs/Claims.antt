@@ -100,7 +100,7 @@ pub record Claims (s : Server) : Type 0 where
   pub storedNames : StoredNames
   -- the step is the one integer of its range that is the places' difference and whole cycles, whatever even number of seconds the cycle has
   pub steps : Steps
-  -- an age grows by a step as a whole number, in every cycle half of which and the longest lease are at most 2^32
+  -- an age grows by a step as a whole number, in every even cycle half of which and the longest lease are together at most 2^32
   pub ages : Ages
   -- a clock that was set back runs on from there
   pub resumes : Resumes advance

@@ -484,7 +484,7 @@ ten-bit-count d =
     absurd (omega arith)
 
 -- 30 seconds less than a ten-bit cycle on, which is no small step back: the place is the new one
-pub ten-bit-stays : Demand3 tenBitCycle → ⊥
+ten-bit-stays : Demand3 tenBitCycle → ⊥
 unfolding all-definitions
 ten-bit-stays d =
     let z : _≡_ {A = ℕ} 0 619315170 = place-read _ _ (ticked-after tenBitCycle (wideBuffer 1) d 1023 604770 (lit< tt) (lit< tt) refl) in
@@ -570,7 +570,7 @@ refuted =
       zUnfolded = z-unfolded;
       bracketFolded = bracket-folded;
       latinFolded = latin-folded;
-      tenBitCycle = (ten-bit-count, ten-bit-place);
+      tenBitCycle = (ten-bit-count, ten-bit-stays, ten-bit-place);
       signedStep = signed-step;
       takesWideWeek = takes-wide-week;
       makesTenBit = (makes-ten-bit, makes-ten-bit-pin);

@@ -19,7 +19,7 @@ use Rattle.model.proofs.HoldingLaws.{held-in, held-inj, count-entries, count-fr
 use Rattle.model.proofs.RoundTrip.{noLine}
 use Rattle.model.proofs.Facts.{Agree, agree, agreed}
 use Rattle.claims.specs.Tally.{lineOf}
-use Rattle.claims.specs.SoundRules.{LineRules, lineIn, sumOfShares, EntryRules, Agreeing, heldSlots, freeSlots, reservedSlots, InSlot, placesWith, SoundRules, SoundExactly}
+use Rattle.claims.specs.SoundRules.{LineRules, lineIn, sumOfShares, EntryRules, Agreeing, heldSlots, freeSlots, reservedSlots, InSlot, cycleWith, SoundRules, SoundExactly}
 use Rattle.claims.proofs.Relation.TallyRules.{limit-of, short-of}
 use Rattle.claims.proofs.StoredNames.{stored-names}
 
@@ -41,9 +41,9 @@ module _ {A : Type 0} (p : A → Bool) (d : A) where
       go false e r = omega arith
 
 -- THE PLACES of a cycle
-places-with : (w : Weeks) → placesWith w ≡ cycleOf w
-places-with tenBit = refl
-places-with thirteenBit = refl
+cycle-with : (w : Weeks) → cycleWith w ≡ cycleOf w
+cycle-with tenBit = refl
+cycle-with thirteenBit = refl
 
 -- HOW MANY
 
@@ -126,7 +126,7 @@ module _ (t : Table) where
     unfolding r
     to-rules =
         record {
-          place = rw (places-with (t .layout .weeks)) (s .place);
+          place = rw (cycle-with (t .layout .weeks)) (s .place);
           slotsMin = s .slotsMin;
           slotsMax = s .slotsMax;
           linesMax = s .lines;
@@ -196,7 +196,7 @@ module _ (t : Table) where
     unfolding r
     from-rules =
         record {
-          place = rw (← places-with (t .layout .weeks)) (s .place);
+          place = rw (← cycle-with (t .layout .weeks)) (s .place);
           slotsMin = s .slotsMin;
           slotsMax = s .slotsMax;
           lines = s .linesMax;

@@ -22,7 +22,7 @@ use Rattle.model.proofs.TableLaws.{flat-cut, length-front, length-roster, lengt
 use Rattle.model.proofs.RoundTrip.{noLine, table-back}
 use Rattle.claims.specs.NumbersInBytes.{valueAt}
 use Rattle.claims.specs.SoundRules.{lineIn}
-use Rattle.claims.specs.TableLayout.{ClockRecord, LineRecord, ZeroRecord, EntryRecord, SlotRecord, Places, placesOf, RecordsAt, TableRecords, TableLayout}
+use Rattle.claims.specs.TableLayout.{ClockRecord, LineRecord, ZeroRecord, EntryRecord, SlotRecord, Places, offsetsOf, RecordsAt, TableRecords, TableLayout}
 use Rattle.claims.proofs.NumbersInBytes.{all-bytes, value-is}
 use Rattle.claims.proofs.SoundRules.{sound-exactly}
 
@@ -30,7 +30,7 @@ use Rattle.claims.proofs.SoundRules.{sound-exactly}
 abbrev modelPlaces : Layout → Places
 modelPlaces l = record { kind = clockKind l; width = placeBytes l; running = runningAt l; lines = linesAt l; slots = base l }
 
-places-are : (w : Weeks) → modelPlaces (record { weeks = w }) ≡ placesOf w
+places-are : (w : Weeks) → modelPlaces (record { weeks = w }) ≡ offsetsOf w
 places-are tenBit = refl
 places-are thirteenBit = refl
 

@@ -4,6 +4,7 @@ use Prim.Native.Nat.{ℕ, _+_, _-_, _/_, _%_}
 use mathlib.Core.Bool.{Bool, cond}
 use lib.Dec.{eqb}
 
+-- 317 + 320n is three less than a multiple of 320, and 313 + 320n is not
 abbrev pub isWide : ℕ → Bool
 isWide size = eqb ((size + 3) % 320) 0
 

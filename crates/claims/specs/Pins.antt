@@ -1,6 +1,6 @@
 -- W11, and the table's bytes after its making, its setup, its response and a refresh without RD; after its setup again and two late responses;
 -- what ticks free when the clock is set back by a year; a table with weeks of thirteen bits, made and ticked; and, with both widths of the week,
--- the bytes of a table whose numbers have no byte in common, written out from document 01's layout. Assumes nothing.
+-- the bytes of a table whose numbers have no byte in common, written out from the layout of documents 01 and 02. Assumes nothing.
 use Prim.Native.Nat.{ℕ, _+_}
 use mathlib.Core.Path.{_≡_}
 use mathlib.Core.Bool.{true, false}

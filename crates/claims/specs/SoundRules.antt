@@ -67,13 +67,13 @@ abbrev pub InSlot : Table → ℕ → Entry → Type 0
 InSlot t j e = getD (t .slots) j free ≡ held e
 
 -- the places of a clock's cycle, with weeks of ten bits and of thirteen
-abbrev pub placesWith : Weeks → ℕ
-placesWith tenBit = 619315200
-placesWith thirteenBit = 4954521600
+abbrev pub cycleWith : Weeks → ℕ
+cycleWith tenBit = 619315200
+cycleWith thirteenBit = 4954521600
 
 pub record SoundRules (t : Table) : Type 0 where
   -- the last place is under 619,315,200, or with weeks of thirteen bits 4,954,521,600; 1 to 64 slots; 16 roster lines
-  pub place : t .clock .place < placesWith (t .layout .weeks)
+  pub place : t .clock .place < cycleWith (t .layout .weeks)
   pub slotsMin : 1 ≤ length (t .slots)
   pub slotsMax : length (t .slots) ≤ 64
   pub linesMax : length (t .roster) ≤ 16

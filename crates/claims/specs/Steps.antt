@@ -22,6 +22,18 @@ pub record TheStep (c from to : ℕ) (z : ℤ) : Type 0 where
   -- no other integer is both
   pub only : (y : ℤ) → StepRange c y → ByCycles c from to y → y ≡ z
 
--- THE CLAIM, of every even cycle and every two places on it
-abbrev pub Steps : Type 0
-Steps = (c from to : ℕ) → c / 2 + c / 2 ≡ c → from < c → to < c → TheStep c from to (step c from to)
+-- of every two places on a cycle of c seconds
+abbrev pub StepsIn : ℕ → Type 0
+StepsIn c = (from to : ℕ) → from < c → to < c → TheStep c from to (step c from to)
+
+-- of a step of a cycle whose half is h: −h to h − 1
+abbrev pub Between : ℕ → ℕ → Type 0
+Between c h = (from to : ℕ) → from < c → to < c → (negℤ (pos h) ≤ℤ step c from to) × (step c from to <ℤ pos h)
+
+-- THE CLAIM
+pub record Steps : Type 0 where
+  -- of every even cycle
+  pub any : (c : ℕ) → c / 2 + c / 2 ≡ c → StepsIn c
+  -- weeks of ten bits: −309,657,600 to 309,657,599; of thirteen: −2,477,260,800 to 2,477,260,799
+  pub ten : StepsIn 619315200 × Between 619315200 309657600
+  pub thirteen : StepsIn 4954521600 × Between 4954521600 2477260800

@@ -23,9 +23,9 @@ pub record Places : Type 0 where
   pub slots : ℕ
 
 -- kind 1, body 8: last place 4, running count 4; or kind 9, body 12: last place 8, running count 4
-abbrev pub placesOf : Weeks → Places
-placesOf tenBit = record { kind = 1; width = 4; running = 5; lines = 9; slots = 313 }
-placesOf thirteenBit = record { kind = 9; width = 8; running = 9; lines = 13; slots = 317 }
+abbrev pub offsetsOf : Weeks → Places
+offsetsOf tenBit = record { kind = 1; width = 4; running = 5; lines = 9; slots = 313 }
+offsetsOf thirteenBit = record { kind = 9; width = 8; running = 9; lines = 13; slots = 317 }
 
 pub record ClockRecord (p : Places) (b : List ℕ) (c : Clock) : Type 0 where
   pub kind : getD b 0 0 ≡ p .kind
@@ -75,7 +75,7 @@ pub record RecordsAt (p : Places) (b : List ℕ) (t : Table) : Type 0 where
 
 -- at the places of its weeks
 abbrev pub TableRecords : List ℕ → Table → Type 0
-TableRecords b t = RecordsAt (placesOf (t .layout .weeks)) b t
+TableRecords b t = RecordsAt (offsetsOf (t .layout .weeks)) b t
 
 -- THE BYTES OF A SOUND TABLE, told by their places
 pub record SoundRecords (b : List ℕ) : Type 0 where

@@ -15,7 +15,7 @@ use Rattle.model.specs.Calls.{MakeCall, TickCall, ServeCall, refusal, tableLeng
 use Rattle.claims.specs.Roster.{linesGiven}
 use Rattle.claims.specs.Lengths.{cycleFor, lastWeek, slotsFor}
 
--- the tally (document 01's term): a clock, the seconds of its cycle among it, n, the roster and a list of holdings
+-- the tally (document 01's term): a clock with its cycle, n, the roster and a list of holdings
 pub record Tally : Type 0 where
   pub cycle : ℕ
   pub place : ℕ

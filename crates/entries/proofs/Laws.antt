@@ -10,12 +10,12 @@ use lib.ListN.{getD}
 use lib.Dec.{eqb, leb, ltb}
 use Rattle.model.specs.Lists.{count, any, indexOf}
 use Rattle.model.specs.Clock.{ageAt}
-use Rattle.model.specs.Table.{Slot, free, held, readEntry, readSlot}
+use Rattle.model.specs.Table.{Slot, free, held, readEntry, readSlot, listed}
 use Rattle.model.specs.Rules.{Holding, holding, heldBy, numbered, Counts, shareOf, limitOf, reserve, full, freshNumber}
 use Rattle.model.specs.Serve.{inSpan, rightLease, has}
 use Rattle.model.proofs.ListLaws.{count-at, every-nil, every-next, every-not, index-upTo, index-upTo-none, length-upTo, getD-upTo, upTo-none}
 use Rattle.model.proofs.HoldingLaws.{count-entries}
-use Rattle.layout.specs.Shape.{inUse, slotsTo, linesTo, listedIn}
+use Rattle.layout.specs.Shape.{inUse, slotsTo, linesTo}
 use Rattle.layout.specs.Held.{heldTo}
 use Rattle.record.specs.declared.State.{State}
 use Rattle.record.specs.State.{hasEntry, isEstablished}
@@ -145,12 +145,12 @@ used-none b n p e = rw (count-held b n p, every-not (has 0 p) (slotsTo b n) e)
 
 -- SERV-FULL, from what the code has counted
 
-module _ (lines slots : List ℕ) (n a : ℕ) {m h l : ℕ} (ms : m ≡ listedIn lines 16) (hs : h ≡ count (heldTo 0 slots n) (heldBy a)) (ls : l ≡ limitOf (linesTo lines m) a) where
+module _ (lines slots : List ℕ) (n a : ℕ) {m h l : ℕ} (ms : m ≡ listed lines 16) (hs : h ≡ count (heldTo 0 slots n) (heldBy a)) (ls : l ≡ limitOf (linesTo lines m) a) where
   room : Bool
   room = leb (shareOf (linesTo lines m) a) h && leb (n - count (heldTo 0 slots n) any) (reserve (linesTo lines m) (count (heldTo 0 slots n)))
 
   abbrev fullNow : Bool
-  fullNow = full n (linesTo lines (listedIn lines 16)) (count (heldTo 0 slots n)) a
+  fullNow = full n (linesTo lines (listed lines 16)) (count (heldTo 0 slots n)) a
 
   full-is : fullNow ≡ leb l h || room
   unfolding full room

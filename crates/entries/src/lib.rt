@@ -9,12 +9,12 @@ ghost use lib.ListN.{length};
 ghost use lib.Dec.{eqb, leb};
 ghost use Rattle.model.specs.Lists.{count, indexOf};
 ghost use Rattle.model.specs.Clock.{ageAt, runOut};
-ghost use Rattle.model.specs.Table.{readEntry, readSlot};
+ghost use Rattle.model.specs.Table.{readEntry, readSlot, listed};
 ghost use Rattle.model.specs.Rules.{numbered, asks, full, freshNumber};
 ghost use Rattle.model.specs.Serve.{isFree, has, slotRunOut, inSpan, answers, refreshes};
 ghost use Rattle.wire.specs.Records.{questionOf};
 ghost use Rattle.entries.specs.Reads.{addressOf, senderOf, entryAt, foundAt, sameFields, slotHas, sent};
-ghost use Rattle.layout.specs.Shape.{slotsTo, linesTo, listedIn};
+ghost use Rattle.layout.specs.Shape.{slotsTo, linesTo};
 ghost use Rattle.layout.specs.Held.{holdingAt, heldTo};
 
 // Who sent the datagram: an address in two halves, and a port.
@@ -291,7 +291,7 @@ pub fn run_out(slots: &[u8], i: usize, running: u32) -> bool
 // SERV-FULL: the address is at its limit, or has reached its share and the free slots are no more than the reserve.
 pub fn is_full(lines: &[u8], slots: &[u8], n: usize, high: u64, low: u64) -> bool
     requires { ⌜ (304 ≤ length (now lines)) × (320 * n ≤ length (now slots)) ⌝ }
-    ensures { λ r. ⌜ r ≡ full n (linesTo (now (lines .entry)) (listedIn (now (lines .entry)) 16)) (count (heldTo 0 (now (slots .entry)) n)) (addressOf high low) ⌝ }
+    ensures { λ r. ⌜ r ≡ full n (linesTo (now (lines .entry)) (listed (now (lines .entry)) 16)) (count (heldTo 0 (now (slots .entry)) n)) (addressOf high low) ⌝ }
 {
     let m = roster::listed_lines(lines);
     let h = holdings::held_by(slots, n, high, low);

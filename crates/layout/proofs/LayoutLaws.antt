@@ -12,14 +12,14 @@ use borrow.Author.Tests.{eq-eqb}
 use Rattle.model.specs.Numbers.{bigEndian, Bytes, part, encode}
 use Rattle.model.proofs.NumberLaws.{length-part, encode-first, big-one, part-all, bytes-drop}
 use Rattle.model.specs.Lists.{every, upTo, flat, same}
-use Rattle.model.specs.Table.{slotBytes, lineBytes, unusedLine, rosterBytes, Layout, clockKind, placeBytes, clockBytes, tableBytes, readTable, readSlot, readLine, runningAt, linesAt, base, sizeOf, layoutOf}
+use Rattle.model.specs.Table.{slotBytes, lineBytes, unusedLine, rosterBytes, Layout, clockKind, placeBytes, clockBytes, tableBytes, readTable, readSlot, readLine, runningAt, linesAt, base, sizeOf, layoutOf, listed}
 use Rattle.model.proofs.ListLaws.{eqb-sym, same-refl, same-append, part-add, same-rows, length-upTo, length-rows}
 use Rattle.model.proofs.SlotLaws.{length-slot, length-line, length-unused, fits-short}
 use Rattle.model.proofs.TableLaws.{length-clock, length-roster, clockFields, clock-starts}
 use Rattle.model.proofs.Meaning.{fits-slot, lines-read, layout-read}
-use Rattle.layout.specs.Shape.{all, slotShape, unusedShape, unusedFrom, partsShape, tableShape, slotsTo, linesTo, listedIn}
+use Rattle.layout.specs.Shape.{all, slotShape, unusedShape, unusedFrom, partsShape, tableShape, slotsTo, linesTo}
 use Rattle.layout.proofs.PartLaws.{roster-read, slots-read}
-use Rattle.layout.proofs.ListedLaws.{listed-le, listed-kind}
+use Rattle.model.proofs.RoundTrip.{listed-le, listed-kind}
 use Rattle.layout.proofs.ShapeLaws.{all-yes, all-ext, same-cons, part-head, readAll, read-all, slot-shape-is}
 
 all-is : (p : ℕ → Bool) (n : ℕ) → every p (upTo n (λ i. i)) ≡ all p n
@@ -61,8 +61,8 @@ module _ (b : List ℕ) (bytes : Bytes b) where
 
   -- the lines' part
   module _ (size : 304 ≤ length b) where
-    lines-are : same (flat lineBytes (linesTo b (listedIn b 16))) (part 0 (19 * listedIn b 16) b) ≡ true
-    lines-are = let le : listedIn b 16 ≤ 16 = listed-le b 16 in lines-same (listedIn b 16) (omega arith) (listed-kind b 16)
+    lines-are : same (flat lineBytes (linesTo b (listed b 16))) (part 0 (19 * listed b 16) b) ≡ true
+    lines-are = let le : listed b 16 ≤ 16 = listed-le b 16 in lines-same (listed b 16) (omega arith) (listed-kind b 16)
 
     unused-are : (m : ℕ) → m ≤ 16 → same (flat (λ (i : ℕ). unusedLine) (upTo (16 - m) (λ i. i))) (part (19 * m) (19 * (16 - m)) b) ≡ unusedFrom b m
     unfolding unusedFrom
@@ -71,10 +71,10 @@ module _ (b : List ℕ) (bytes : Bytes b) where
         ∙ all-is (λ i. same unusedLine (part (19 * m + 19 * i) 19 b)) (16 - m)
         ∙ all-ext (λ i. same unusedLine (part (19 * m + 19 * i) 19 b)) (λ i. unusedShape b (19 * m + 19 * i)) (16 - m) (λ i l. unused-is (19 * m + 19 * i) (omega arith))
 
-    roster-is : same (rosterBytes (linesTo b (listedIn b 16))) (part 0 304 b) ≡ unusedFrom b (listedIn b 16)
+    roster-is : same (rosterBytes (linesTo b (listed b 16))) (part 0 304 b) ≡ unusedFrom b (listed b 16)
     unfolding rosterBytes
     roster-is =
-        let m = listedIn b 16 in
+        let m = listed b 16 in
         let le : m ≤ 16 = listed-le b 16 in
         let e : 304 ≡ 19 * m + 19 * (16 - m) = omega arith in
         let cut : part 0 304 b ≡ part 0 (19 * m) b ++ part (19 * m) (19 * (16 - m)) b =
@@ -117,7 +117,7 @@ module _ (b : List ℕ) (bytes : Bytes b) (n : ℕ) (size : length b ≡ sizeOf 
   pub layout-is : same (tableBytes (readTable b)) b ≡ tableShape l b n
   unfolding tableBytes tableShape partsShape
   layout-is =
-      let ls = linesTo lines (listedIn lines 16) in
+      let ls = linesTo lines (listed lines 16) in
       let c0 : b ≡ part 0 (linesAt l) b ++ (part 0 304 lines ++ slots) = whole in
       let sl : length lines ≡ length b - linesAt l = length-drop (linesAt l) b in
       let ss : length slots ≡ length b - base l = length-drop (base l) b in

@@ -1,5 +1,4 @@
 pub mod ShapeLaws
-pub mod ListedLaws
 pub mod PartLaws
 pub mod LayoutLaws
 pub mod ReadLaws

@@ -1,5 +1,5 @@
 -- What is read of a part that starts at k is what is read of the whole, k further on; a table read from its parts. Assumes nothing.
-use Prim.Native.Nat.{ℕ, zero, suc, _+_, _-_, _*_}
+use Prim.Native.Nat.{ℕ, _+_, _-_, _*_}
 use native.Mathlib.Omega.{arith}
 use mathlib.Core.Bool.{Bool}
 use mathlib.Core.Path.{_≡_, refl, sym, ap, _∙_}
@@ -13,7 +13,7 @@ use Rattle.model.specs.Rules.{Holding, holdings}
 use Rattle.model.specs.Serve.{has, findEntry}
 use Rattle.model.proofs.NumberLaws.{big-ext}
 use Rattle.model.proofs.ListLaws.{upTo-ext}
-use Rattle.layout.specs.Shape.{slotsTo, linesTo, listedIn}
+use Rattle.layout.specs.Shape.{slotsTo, linesTo}
 use Rattle.layout.specs.Held.{heldTo}
 
 module _ (k : ℕ) (b : List ℕ) where
@@ -77,19 +77,10 @@ module _ (b : List ℕ) where
   abbrev l : Layout
   l = layoutOf (length b)
 
-  listed-in : (m : ℕ) → listedIn (drop (linesAt l) b) m ≡ listed l b m
-  unfolding listedIn listed
-  listed-in zero = refl
-  listed-in (suc m) = rw (listed-in m, getD-drop (linesAt l) b (19 * m) 0)
-
-  pub listed-is : listed l b 16 ≡ listedIn (drop (linesAt l) b) 16
-  listed-is = sym (listed-in 16)
-
-  pub roster-read : readTable b .roster ≡ linesTo (drop (linesAt l) b) (listedIn (drop (linesAt l) b) 16)
+  pub roster-read : readTable b .roster ≡ linesTo (drop (linesAt l) b) (listed (drop (linesAt l) b) 16)
   unfolding readTable
   roster-read =
-      rw (listed-in 16)
-      (upTo-ext (listed l b 16) (λ j. readLine b (lineAt l j)) (λ j. readLine (drop (linesAt l) b) (19 * j)) (λ j h. sym (line-drop (linesAt l) b (19 * j))))
+      upTo-ext (listed (drop (linesAt l) b) 16) (λ j. readLine b (lineAt l j)) (λ j. readLine (drop (linesAt l) b) (19 * j)) (λ j h. sym (line-drop (linesAt l) b (19 * j)))
 
   running-is : readTable b .clock .running ≡ bigEndian b (runningAt l) 4
   unfolding readTable

@@ -8,16 +8,16 @@ use lib.Dec.{eqb, ltb}
 use borrow.Author.Tests.{le-leb}
 use Rattle.model.specs.Numbers.{bigEndian, Bytes}
 use Rattle.model.specs.Clock.{cycleOf}
-use Rattle.model.specs.Table.{readTable, readSlot, readLine, Layout, clockKind, placeBytes, runningAt, linesAt, base, sizeOf, layoutOf, slotsIn}
+use Rattle.model.specs.Table.{readTable, readSlot, readLine, Layout, clockKind, placeBytes, runningAt, linesAt, base, sizeOf, layoutOf, slotsIn, listed}
 use Rattle.model.specs.Sound.{Sound, soundTable, soundBytes}
 use Rattle.model.proofs.ListLaws.{length-upTo, swap}
 use Rattle.model.proofs.Meaning.{bytes-back, table-sound, slots-read as slots-length, layout-read}
-use Rattle.layout.specs.Shape.{partsShape, tableShape, slotsTo, linesTo, listedIn}
+use Rattle.layout.specs.Shape.{partsShape, tableShape, slotsTo, linesTo}
 use Rattle.layout.specs.Held.{heldTo, rulesOf}
 use Rattle.layout.proofs.ReadLaws.{place-read, running-read, formed-size}
 use Rattle.layout.proofs.LayoutLaws.{layout-is}
 use Rattle.layout.proofs.PartLaws.{roster-read, slots-read}
-use Rattle.layout.proofs.ListedLaws.{listed-le}
+use Rattle.model.proofs.RoundTrip.{listed-le}
 
 module _ (b : List ℕ) (bytes : Bytes b) where
   module _ (n : ℕ) (size : length b ≡ sizeOf (layoutOf (length b)) n) (lo : 1 ≤ n) (hi : n ≤ 64) where
@@ -33,7 +33,7 @@ module _ (b : List ℕ) (bytes : Bytes b) where
     table-is : soundTable (readTable b) ≡ ltb (bigEndian b 1 (placeBytes l)) (cycleOf (l .weeks)) && rulesOf (bigEndian b (runningAt l) 4) lines slots n
     unfolding soundTable heldTo
     table-is =
-        let m = listedIn lines 16 in
+        let m = listed lines 16 in
         let ls : length (slotsTo slots n) ≡ n = length-upTo n (λ j. readSlot slots (320 * j)) in
         let lr : length (linesTo lines m) ≡ m = length-upTo m (λ j. readLine lines (19 * j)) in
         rw (layout-read b, slots-read b n size, roster-read b, ls, lr, le-leb 1 n lo, le-leb n 64 hi, le-leb m 16 (listed-le lines 16), place-read b, running-read b)

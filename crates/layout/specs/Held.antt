@@ -5,10 +5,10 @@ use mathlib.Core.List.{List}
 use lib.ListN.{getD}
 use lib.Dec.{leb}
 use Rattle.model.specs.Lists.{count}
-use Rattle.model.specs.Table.{Line, readEntry}
+use Rattle.model.specs.Table.{Line, readEntry, listed}
 use Rattle.model.specs.Rules.{Holding, holding, entriesOf, heldBy, limitOf}
 use Rattle.model.specs.Sound.{soundRoster, soundHoldings}
-use Rattle.layout.specs.Shape.{inUse, slotsTo, linesTo, listedIn}
+use Rattle.layout.specs.Shape.{inUse, slotsTo, linesTo}
 
 -- The slots' part does not hold the running count: it is the first argument. Rules that do not see an age are stated at 0.
 
@@ -31,4 +31,4 @@ within ls hs h = leb (count hs (heldBy (h .address))) (limitOf ls (h .address))
 -- the rules of a table of n slots, by its running count, lines and slots
 abbrev pub rulesOf : ℕ → List ℕ → List ℕ → ℕ → Bool
 rulesOf running lines slots n =
-    soundRoster n (linesTo lines (listedIn lines 16)) && soundHoldings n (linesTo lines (listedIn lines 16)) (heldTo running slots n)
+    soundRoster n (linesTo lines (listed lines 16)) && soundHoldings n (linesTo lines (listed lines 16)) (heldTo running slots n)

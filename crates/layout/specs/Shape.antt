@@ -7,11 +7,15 @@ use lib.ListN.{getD, drop, replicate}
 use lib.Dec.{eqb}
 use Rattle.model.specs.Lists.{every, upTo, same}
 use Rattle.model.specs.Numbers.{part}
-use Rattle.model.specs.Table.{Slot, Line, Layout, clockKind, linesAt, base, readSlot, readLine}
+use Rattle.model.specs.Table.{Slot, Line, Layout, clockKind, linesAt, base, readSlot, readLine, listed}
 
 -- each number below n passes
 unfoldable pub all : (ℕ → Bool) → ℕ → Bool
 all p n = every p (upTo n (λ i. i))
+
+-- a listed line's kind
+abbrev pub listedKind : ℕ
+listedKind = 3
 
 -- the kind is an entry's, pending or established
 abbrev pub inUse : ℕ → Bool
@@ -34,13 +38,9 @@ unusedShape b at = eqb (getD b at 0) 2 && zerosAt b (at + 1) 18
 abbrev pub slotsTo : List ℕ → ℕ → List Slot
 slotsTo b i = upTo i (λ j. readSlot b (320 * j))
 
--- the first i lines of the lines' part, and of m lines how many of kind 3 stand first
+-- the first i lines of the lines' part
 abbrev pub linesTo : List ℕ → ℕ → List Line
 linesTo b i = upTo i (λ j. readLine b (19 * j))
-
-unfoldable pub listedIn : List ℕ → ℕ → ℕ
-listedIn b zero = 0
-listedIn b (suc m) = cond (eqb (listedIn b m) m && eqb (getD b (19 * m) 0) 3) (suc m) (listedIn b m)
 
 -- its lines from m on are unused
 unfoldable pub unusedFrom : List ℕ → ℕ → Bool
@@ -48,7 +48,7 @@ unusedFrom b m = all (λ i. unusedShape b (19 * m + 19 * i)) (16 - m)
 
 -- kinds, order and zeros of lines and n slots
 unfoldable pub partsShape : List ℕ → List ℕ → ℕ → Bool
-partsShape lines slots n = unusedFrom lines (listedIn lines 16) && all (λ i. slotShape slots (320 * i)) n
+partsShape lines slots n = unusedFrom lines (listed lines 16) && all (λ i. slotShape slots (320 * i)) n
 
 -- kinds, order, lengths and zeros of a table of layout l with n slots
 unfoldable pub tableShape : Layout → List ℕ → ℕ → Bool

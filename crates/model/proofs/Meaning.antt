@@ -4,11 +4,11 @@ use native.Mathlib.Omega.{arith}
 use mathlib.Core.Path.{_≡_, refl, sym, ap, _∙_}
 use mathlib.Core.Bool.{Bool, true, false, cond, _||_}
 use mathlib.Core.List.{List}
-use lib.ListN.{length, getD, length-take}
+use lib.ListN.{length, getD, drop, length-take}
 use lib.Dec.{eqb}
 use Rattle.model.specs.Lists.{same}
 use Rattle.model.specs.Numbers.{Bytes, part}
-use Rattle.model.specs.Table.{free, held, Layout, Table, placeBytes, tableBytes, readTable, readSlot, readLine, readEntry, runningAt, slotAt, lineAt, listed, layoutOf, slotsIn, sizeOf}
+use Rattle.model.specs.Table.{free, held, Layout, Table, placeBytes, tableBytes, readTable, readSlot, readLine, readEntry, runningAt, linesAt, slotAt, lineAt, listed, layoutOf, slotsIn, sizeOf}
 use Rattle.model.specs.Sound.{FitsEntry, FitsSlot, FitsLine, Fits, Sound, SoundBytes, soundTable, soundBytes}
 use Rattle.model.proofs.NumberLaws.{big-lt, bytes-part}
 use Rattle.model.proofs.ListLaws.{and-left, and-right, same-true, same-refl, length-upTo, getD-upTo}
@@ -52,8 +52,8 @@ module _ (b : List ℕ) (bytes : Bytes b) where
         place = big-lt b 1 (placeBytes l) bytes;
         running = big-lt b (runningAt l) 4 bytes;
         lines = λ i h.
-            let m = (rw (length-upTo (listed l b 16) (λ j. readLine b (lineAt l j))) at h) in
-            rw (getD-upTo (listed l b 16) (λ j. readLine b (lineAt l j)) i noLine m) (fits-line (lineAt l i));
+            let m = (rw (length-upTo (listed (drop (linesAt l) b) 16) (λ j. readLine b (lineAt l j))) at h) in
+            rw (getD-upTo (listed (drop (linesAt l) b) 16) (λ j. readLine b (lineAt l j)) i noLine m) (fits-line (lineAt l i));
         slots = λ i h.
             let m = (rw (length-upTo (slotsIn (length b)) (λ j. readSlot b (slotAt l j))) at h) in
             rw (getD-upTo (slotsIn (length b)) (λ j. readSlot b (slotAt l j)) i free m) (fits-slot (slotAt l i));
@@ -63,7 +63,7 @@ pub lines-read : (b : List ℕ) → length (readTable b .roster) ≤ 16
 unfolding readTable
 lines-read b =
     let l = layoutOf (length b) in
-    rw (length-upTo (listed l b 16) (λ j. readLine b (lineAt l j))) (listed-le l b 16)
+    rw (length-upTo (listed (drop (linesAt l) b) 16) (λ j. readLine b (lineAt l j))) (listed-le (drop (linesAt l) b) 16)
 
 pub slots-read : (b : List ℕ) → length (readTable b .slots) ≡ slotsIn (length b)
 unfolding readTable

@@ -8,49 +8,64 @@ use mathlib.Core.Bool.{Bool, true, false, cond, _&&_}
 use mathlib.Core.List.{List, [], _∷_, _++_, append-assoc}
 use mathlib.Core.Logic.{⊎-elim, _≢_}
 use lib.ListN.{length, getD, take, drop, replicate, length-append}
-use lib.Seq.{getD-at}
+use lib.Seq.{getD-at, getD-drop}
 use lib.Dec.{eqb, lit<}
-use borrow.Author.Tests.{eq-eqb, ne-eqb}
+use borrow.Author.Tests.{eqb-true, eq-eqb, ne-eqb}
 use Rattle.model.specs.Lists.{upTo, flat}
 use Rattle.model.specs.Numbers.{bigEndian}
 use Rattle.model.specs.Clock.{Weeks, tenBit, thirteenBit}
-use Rattle.model.specs.Table.{Line, free, Layout, Table, slotBytes, lineBytes, unusedLine, rosterBytes, clockKind, placeBytes, clockBytes, tableBytes, readBy, readTable, readSlot, readLine, runningAt, slotAt, lineAt, sizeOf, weeksFor, layoutOf, listed, slotsIn}
+use Rattle.model.specs.Table.{Line, free, Layout, Table, slotBytes, lineBytes, unusedLine, rosterBytes, clockKind, placeBytes, clockBytes, tableBytes, readAs, readTable, readSlot, readLine, runningAt, linesAt, slotAt, lineAt, sizeOf, weeksFor, layoutOf, listed, slotsIn}
 use Rattle.model.specs.Sound.{Fits}
-use Rattle.model.proofs.ListLaws.{length-upTo, upTo-ext, upTo-getD, length-flat}
+use Rattle.model.proofs.ListLaws.{and-left, and-right, length-upTo, upTo-ext, upTo-getD, length-flat}
 use Rattle.model.proofs.SlotLaws.{length-line, slot-back, field-behind, line-kind, line-back}
 use Rattle.model.proofs.TableLaws.{flat-cut, length-front, length-roster, length-clock, fits-rows, length-table, clockFields}
 
 -- HOW MANY LINES ARE LISTED
-module _ (l : Layout) (b : List ℕ) where
-  pub listed-more : (i : ℕ) → listed l b i ≡ i → getD b (lineAt l i) 0 ≡ 3 → listed l b (i + 1) ≡ i + 1
+module _ (b : List ℕ) where
+  pub listed-more : (i : ℕ) → listed b i ≡ i → getD b (19 * i) 0 ≡ 3 → listed b (i + 1) ≡ i + 1
   unfolding listed
-  listed-more i e k = rw (add-one, e, eq-eqb i i refl, eq-eqb (getD b (lineAt l i) 0) 3 k)
+  listed-more i e k = rw (add-one, e, eq-eqb i i refl, eq-eqb (getD b (19 * i) 0) 3 k)
 
-  pub listed-stop : (i m : ℕ) → listed l b i ≡ i → getD b (lineAt l i) 0 ≢ 3 → i < m → listed l b m ≡ i
+  pub listed-stop : (i m : ℕ) → listed b i ≡ i → getD b (19 * i) 0 ≢ 3 → i < m → listed b m ≡ i
   unfolding listed
   listed-stop i zero e n h = absurd (omega arith)
   listed-stop i (suc m) e n h =
       ⊎-elim
-      (λ (q : i ≡ m). rw (← q, e, eq-eqb i i refl, ne-eqb (getD b (lineAt l i) 0) 3 n))
+      (λ (q : i ≡ m). rw (← q, e, eq-eqb i i refl, ne-eqb (getD b (19 * i) 0) 3 n))
       (λ (q : i < m). let r = listed-stop i m e n q in rw (r, ne-eqb i m (λ z. omega arith)))
       (let q : i ≤ m = omega arith in eq-or-lt-of-le q)
 
-  listed-none : listed l b 0 ≡ 0
+  pub listed-none : listed b 0 ≡ 0
   unfolding listed
   listed-none = refl
 
-  pub listed-le : (m : ℕ) → listed l b m ≤ m
+  pub listed-le : (m : ℕ) → listed b m ≤ m
   unfolding listed
   listed-le zero = omega arith
-  listed-le (suc m) = go (eqb (listed l b m) m && eqb (getD b (lineAt l m) 0) 3) (listed-le m)
+  listed-le (suc m) = go (eqb (listed b m) m && eqb (getD b (19 * m) 0) 3) (listed-le m)
     where
-      go : (v : Bool) → listed l b m ≤ m → cond v (suc m) (listed l b m) ≤ suc m
+      go : (v : Bool) → listed b m ≤ m → cond v (suc m) (listed b m) ≤ suc m
       go true h = omega arith
       go false h = omega arith
 
-  pub listed-full : (m : ℕ) → ((i : ℕ) → i < m → getD b (lineAt l i) 0 ≡ 3) → listed l b m ≡ m
+  pub listed-full : (m : ℕ) → ((i : ℕ) → i < m → getD b (19 * i) 0 ≡ 3) → listed b m ≡ m
   listed-full zero h = listed-none
   listed-full (suc m) h = rw (← add-one m) (listed-more m (listed-full m (λ i l. h i (omega arith))) (h m (omega arith)))
+
+pub listed-kind : (b : List ℕ) (m i : ℕ) → i < listed b m → getD b (19 * i) 0 ≡ 3
+unfolding listed
+listed-kind b zero i h = absurd (omega arith)
+listed-kind b (suc m) i h = go (eqb (listed b m) m && eqb (getD b (19 * m) 0) 3) refl h (λ (l : i < listed b m). listed-kind b m i l)
+  where
+    go : (v : Bool) → eqb (listed b m) m && eqb (getD b (19 * m) 0) 3 ≡ v → i < cond v (suc m) (listed b m) → (i < listed b m → getD b (19 * i) 0 ≡ 3)
+        → getD b (19 * i) 0 ≡ 3
+    go true e l rec =
+        let f : listed b m ≡ m = eqb-true (listed b m) m (and-left (eqb (listed b m) m) (eqb (getD b (19 * m) 0) 3) e) in
+        ⊎-elim
+        (λ (q : i ≡ m). rw q (eqb-true (getD b (19 * m) 0) 3 (and-right (eqb (listed b m) m) (eqb (getD b (19 * m) 0) 3) e)))
+        (λ (q : i < m). rec (omega arith))
+        (let q : i ≤ m = omega arith in eq-or-lt-of-le q)
+    go false e l rec = rec l
 
 -- THE LENGTH SAYS THE LAYOUT AND THE SLOTS
 weeks-back : (w : Weeks) (n : ℕ) → weeksFor (sizeOf (record { weeks = w }) n) ≡ w
@@ -136,12 +151,18 @@ module _ (t : Table) (lines : length (t .roster) ≤ 16) (f : Fits t) where
       rw (k, unused-cut (15 - m)) (simp append-assoc) in
       ap (λ (z : List ℕ). getD z (lineAt (t .layout) m) 0) e ∙ getD-at p 2 q 0 (lineAt (t .layout) m) lp
 
-  listed-is : listed (t .layout) (tableBytes t) 16 ≡ length (t .roster)
+  abbrev lines-part : List ℕ
+  lines-part = drop (linesAt (t .layout)) (tableBytes t)
+
+  kind-in : (i : ℕ) → getD lines-part (19 * i) 0 ≡ getD (tableBytes t) (lineAt (t .layout) i) 0
+  kind-in i = getD-drop (linesAt (t .layout)) (tableBytes t) (19 * i) 0
+
+  listed-is : listed lines-part 16 ≡ length (t .roster)
   listed-is =
-      let full = listed-full (t .layout) (tableBytes t) (length (t .roster)) (λ i l. kind-at i l) in
+      let full = listed-full lines-part (length (t .roster)) (λ i h. kind-in i ∙ kind-at i h) in
       ⊎-elim
       (λ (q : length (t .roster) ≡ 16). (rw q at full) ∙ sym q)
-      (λ (q : length (t .roster) < 16). listed-stop (t .layout) (tableBytes t) (length (t .roster)) 16 full (λ z. omega (arith, kind-after q)) q)
+      (λ (q : length (t .roster) < 16). listed-stop lines-part (length (t .roster)) 16 full (λ z. omega (arith, kind-in (length (t .roster)), kind-after q)) q)
       (eq-or-lt-of-le lines)
 
   place-back : bigEndian (tableBytes t) 1 (placeBytes (t .layout)) ≡ t .clock .place
@@ -173,6 +194,6 @@ module _ (t : Table) (lines : length (t .roster) ≤ 16) (f : Fits t) where
       let rs : upTo (length (t .roster)) (λ i. readLine b (lineAt l i)) ≡ t .roster =
       upTo-ext (length (t .roster)) (λ i. readLine b (lineAt l i)) (λ i. getD (t .roster) i noLine) (λ i h. line-at i h)
       ∙ upTo-getD (t .roster) noLine in
-      ap (λ (k : Layout). readBy k (slotsIn (length b)) b) layout-kept
-      ∙ ap (λ (n : ℕ). readBy l n b) size-back
+      ap (λ (k : Layout). readAs k (slotsIn (length b)) b) layout-kept
+      ∙ ap (λ (n : ℕ). readAs l n b) size-back
       ∙ (rw (place-back, running-back, listed-is, ss, rs))

@@ -13,7 +13,7 @@ use Rattle.model.specs.Lists.{count, keep, every, indexOf}
 use Rattle.model.specs.Numbers.{Bytes}
 use Rattle.model.specs.Clock.{Clock, Weeks, tenBit, thirteenBit, cycleOf, advance, ageAt}
 use Rattle.model.specs.Query.{Question, LlqOption, goodQuestion, questionAt}
-use Rattle.model.specs.Table.{Entry, Slot, free, held, Table, placeWith, placeBytes, cycleIn}
+use Rattle.model.specs.Table.{Entry, Slot, free, held, Table, placeWidth, placeBytes, cycleIn}
 use Rattle.model.specs.Rules.{Holding, holding, entriesOf, holdings, asks, full, grantedLease}
 use Rattle.model.specs.Sound.{live, validLease, FitsEntry, FitsSlot, Fits, Sound}
 use Rattle.model.specs.Serve.{withClock, withSlots, withSlot, slotRunOut, freeIfRunOut, freeRunOut, movedOn, isFree, findEntry, slotOf, Sender, Kind, badVersion, badFormat, setup, response, refresh, Served, kindOfOption, newEntry, retryLater, granted, establish, renew, answers, refreshes, onSetup, serveSetup, onResponse, serveResponse, onRefresh, serveRefresh, serveKind, serveOption}
@@ -138,7 +138,7 @@ fits-slot-of t i f = go (ltb i (length (t .slots))) refl
 -- THE CLOCK MOVED AND RUN-OUT ENTRIES FREED
 
 -- a place under the cycle fits its field
-pub cycle-fits : (w : Weeks) → cycleOf w ≤ 256 ^ placeWith w
+pub cycle-fits : (w : Weeks) → cycleOf w ≤ 256 ^ placeWidth w
 cycle-fits tenBit = lit≤ tt
 cycle-fits thirteenBit = lit≤ tt
 

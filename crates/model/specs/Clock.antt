@@ -46,8 +46,8 @@ slack = 60
 -- a step of 0 or more is added to the running count, modulo 4,294,967,296, and the new place is kept;
 -- a negative step of 60 seconds or less changes nothing, a larger one leaves the running count and keeps the new place
 abbrev pub moved : Clock → ℕ → ℤ → Clock
-moved c to (pos n) = record { place = to; running = (c .running + n) % 2 ^ 32 }
-moved c to (negsuc n) = cond (leb (n + 1) slack) c (record { place = to; running = c .running })
+moved k to (pos n) = record { place = to; running = (k .running + n) % 2 ^ 32 }
+moved k to (negsuc n) = cond (leb (n + 1) slack) k (record { place = to; running = k .running })
 
 -- the clock k moved on to a new place, in a cycle of c seconds
 unfoldable pub advance : ℕ → Clock → ℕ → Clock

@@ -2,7 +2,7 @@
 use Prim.Native.Nat.{ℕ, zero, suc, _+_, _-_, _*_, _/_, _%_}
 use mathlib.Core.Bool.{Bool, true, false, cond, _&&_, _||_}
 use mathlib.Core.List.{List, [], _∷_, _++_}
-use lib.ListN.{length, getD, replicate}
+use lib.ListN.{length, getD, drop, replicate}
 use lib.Dec.{eqb}
 use Rattle.model.specs.Lists.{upTo, flat}
 use Rattle.model.specs.Numbers.{bigEndian, part, encode}
@@ -51,12 +51,12 @@ kindWith thirteenBit = 9
 abbrev pub clockKind : Layout → ℕ
 clockKind l = kindWith (l .weeks)
 
-abbrev pub placeWith : Weeks → ℕ
-placeWith tenBit = 4
-placeWith thirteenBit = 8
+abbrev pub placeWidth : Weeks → ℕ
+placeWidth tenBit = 4
+placeWidth thirteenBit = 8
 
 abbrev pub placeBytes : Layout → ℕ
-placeBytes l = placeWith (l .weeks)
+placeBytes l = placeWidth (l .weeks)
 
 -- 0x01, body 8: last place 4, running count 4; or 0x09, body 12: last place 8, running count 4
 unfoldable pub clockBytes : Layout → Clock → List ℕ
@@ -116,7 +116,7 @@ slotAt l i = base l + 320 * i
 abbrev pub sizeOf : Layout → ℕ → ℕ
 sizeOf l n = base l + 320 * n
 
--- the length alone says which layout a table has: the two differ in the rest modulo 320
+-- the length alone says which layout a table has: the two differ in the rest modulo 320; a length of any other rest is no table's
 abbrev pub weeksFor : ℕ → Weeks
 weeksFor size = cond (eqb (size % 320) 317) thirteenBit tenBit
 
@@ -153,20 +153,20 @@ readEntry b at =
 unfoldable pub readSlot : List ℕ → ℕ → Slot
 readSlot b at = cond (eqb (getD b at 0) 5 || eqb (getD b at 0) 6) (held (readEntry b at)) free
 
--- how many lines of kind 3 stand first, of m
-unfoldable pub listed : Layout → List ℕ → ℕ → ℕ
-listed l b zero = 0
-listed l b (suc m) = cond (eqb (listed l b m) m && eqb (getD b (lineAt l m) 0) 3) (suc m) (listed l b m)
+-- of bytes that start with the lines: how many of kind 3 stand first, of m
+unfoldable pub listed : List ℕ → ℕ → ℕ
+listed b zero = 0
+listed b (suc m) = cond (eqb (listed b m) m && eqb (getD b (19 * m) 0) 3) (suc m) (listed b m)
 
 -- by the layout l of n slots
-abbrev pub readBy : Layout → ℕ → List ℕ → Table
-readBy l n b =
+abbrev pub readAs : Layout → ℕ → List ℕ → Table
+readAs l n b =
     record {
       layout = l;
       clock = record { place = bigEndian b 1 (placeBytes l); running = bigEndian b (runningAt l) 4 };
-      roster = upTo (listed l b 16) (λ i. readLine b (lineAt l i));
+      roster = upTo (listed (drop (linesAt l) b) 16) (λ i. readLine b (lineAt l i));
       slots = upTo n (λ i. readSlot b (slotAt l i));
     }
 
 unfoldable pub readTable : List ℕ → Table
-readTable b = readBy (layoutOf (length b)) (slotsIn (length b)) b
+readTable b = readAs (layoutOf (length b)) (slotsIn (length b)) b

@@ -14,7 +14,7 @@ use Rattle.model.specs.Numbers.{Bytes, bigEndian, bytesOf, splice, encode}
 use Rattle.model.specs.Clock.{ageAt}
 use Rattle.model.specs.Query as query
 use Rattle.model.specs.Table as table
-use Rattle.model.specs.Table.{free, held, Layout, Table, runningAt, linesAt, base, slotAt, layoutOf, slotsIn, sizeOf, readTable, readSlot, readEntry, slotBytes}
+use Rattle.model.specs.Table.{free, held, Layout, Table, runningAt, linesAt, base, slotAt, layoutOf, slotsIn, sizeOf, readTable, readSlot, readEntry, slotBytes, listed}
 use Rattle.model.specs.Rules.{Holding, holdings, asks, full, grantedLease, freshNumber}
 use Rattle.model.specs.Sound.{FitsEntry}
 use Rattle.model.specs.Serve as serve
@@ -23,7 +23,7 @@ use Rattle.model.proofs.NumberLaws.{big-lt, bytes-drop}
 use Rattle.model.proofs.ListLaws.{index-hit, getD-past, getD-upTo, length-upTo}
 use Rattle.model.proofs.Meaning.{fits-entry, slots-count}
 use Rattle.model.proofs.StepLaws.{fits-establish, fits-renew}
-use Rattle.layout.specs.Shape.{inUse, slotsTo, linesTo, listedIn}
+use Rattle.layout.specs.Shape.{inUse, slotsTo, linesTo}
 use Rattle.layout.specs.Held.{heldTo}
 use Rattle.layout.proofs.PartLaws.{roster-read, slots-read, holdings-read, find-read}
 use Rattle.layout.proofs.AgeLaws.{index-ageless, held-full, held-fresh}
@@ -175,12 +175,12 @@ module _ (b : List ℕ) (bytes : Bytes b) (formed : WellFormed b) (n : ℕ) (siz
 
       -- full, as the code has counted
       abbrev fullNow : Bool
-      fullNow = full n (linesTo (drop (linesAt lay) b) (listedIn (drop (linesAt lay) b) 16)) (count (heldTo 0 slots n)) (senderOf s .address)
+      fullNow = full n (linesTo (drop (linesAt lay) b) (listed (drop (linesAt lay) b) 16)) (count (heldTo 0 slots n)) (senderOf s .address)
 
       full-is : full n (readTable b .roster) (count (holdings (readTable b))) (senderOf s .address) ≡ fullNow
       full-is =
           rw (roster-read b, holdings-read b n size)
-          (held-full (bigEndian b (runningAt lay) 4) slots n n (linesTo (drop (linesAt lay) b) (listedIn (drop (linesAt lay) b) 16)) (senderOf s .address))
+          (held-full (bigEndian b (runningAt lay) 4) slots n n (linesTo (drop (linesAt lay) b) (listed (drop (linesAt lay) b) 16)) (senderOf s .address))
 
       lost : n ≤ i → serveSetup (senderOf s) r q (optionOf o) (readTable b)
           ≡ cond fullNow (record { table = readTable b; outcome = serve.retryLater (optionOf o) }) grants

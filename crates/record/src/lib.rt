@@ -1,17 +1,20 @@
-// One record's bytes, wherever they lie: a slot or a roster line, its kind and zeros, and the rules that it meets by itself.
+// One record's bytes: of a slot or a roster line, wherever they lie, its kind and zeros and the rules that it meets by itself; of a table's clock, its two numbers
+// read and written. Here alone a place is taken as 4 bytes or 8.
 ghost use mathlib.Core.Path.{_≡_};
 ghost use mathlib.Core.Bool.{_&&_};
-ghost use Prim.Native.Nat.{_+_, _*_, _^_, _≤_};
+ghost use mathlib.Core.List.{_∷_, []};
+ghost use Prim.Native.Nat.{_+_, _*_, _^_, _≤_, _<_};
 ghost use lib.ListN.{length, getD};
 ghost use lib.Dec.{eqb};
-ghost use Rattle.model.specs.Numbers.{bigEndian};
-ghost use Rattle.model.specs.Table.{readLine, placeWith, runningAt, layoutOf, readTable};
+ghost use Rattle.model.specs.Numbers.{bigEndian, bytesOf, splice, encode};
+ghost use Rattle.model.specs.Clock.{cycleOf};
+ghost use Rattle.model.specs.Table.{readLine, placeWidth, placeBytes, runningAt, layoutOf, readTable};
 ghost use Rattle.model.specs.Rules.{numbered, heldBy};
 ghost use Rattle.model.specs.Sound.{validLine, validEntry};
 ghost use Rattle.layout.specs.Shape.{inUse, slotShape, unusedShape};
 ghost use Rattle.layout.specs.Held.{holdingAt};
 ghost use Rattle.layout.specs.Weeks.{weeksOf};
-ghost use Rattle.layout.specs.Places.{LayoutFor};
+ghost use Rattle.layout.specs.Places.{layoutIn, LayoutFor};
 ghost use Rattle.clock.specs.Clock.{clockOf};
 ghost use Rattle.record.specs.Asked.{sameAsked};
 ghost use Rattle.record.specs.State.{stateOf, kindByte};
@@ -20,10 +23,10 @@ use layout::Layout;
 use layout::Weeks;
 use wire::LlqNumber;
 
-// The last place, in as many bytes as its weeks have.
+// The last place: 4 bytes with weeks of ten bits, 8 with weeks of thirteen.
 fn place_at(t: &[u8], weeks: Weeks) -> u64
-    requires { ⌜ 9 ≤ length (now t) ⌝ }
-    ensures { λ r. ⌜ r ≡ bigEndian (now (t .entry)) 1 (placeWith (weeksOf weeks)) ⌝ }
+    requires { ⌜ 1 + placeWidth (weeksOf weeks) ≤ length (now t) ⌝ }
+    ensures { λ r. ⌜ r ≡ bigEndian (now (t .entry)) 1 (placeWidth (weeksOf weeks)) ⌝ }
 {
     match weeks {
         Weeks::Ten => octets::get32(t, layout::PLACE_AT) as u64,
@@ -49,6 +52,27 @@ pub fn clock_at(t: &[u8], l: Layout) -> Clock
         place: place_at(t, weeks),
         running: running_count(t, l),
     }
+}
+
+// The last place is written.
+fn put_place(t: &mut [u8], weeks: Weeks, place: u64)
+    requires { ⌜ (1 + placeWidth (weeksOf weeks) ≤ length (now t)) × (place < cycleOf (weeksOf weeks)) ⌝ }
+    ensures { λ _. ⌜ now (t .exit) ≡ splice 1 (placeWidth (weeksOf weeks)) (bytesOf (placeWidth (weeksOf weeks)) place) (now (t .entry)) ⌝ }
+{
+    match weeks {
+        Weeks::Ten => octets::put32(t, layout::PLACE_AT, place as u32),
+        Weeks::Thirteen => octets::put64(t, layout::PLACE_AT, place),
+    }
+}
+
+// The clock's two numbers are written.
+pub fn put_clock(t: &mut [u8], l: Layout, c: Clock)
+    requires { ⌜ LayoutFor l (length (now t)) × (l .«slots_at» ≤ length (now t)) × (c .place < cycleOf (weeksOf (l .weeks))) ⌝ }
+    ensures { λ _. ⌜ now (t .exit) ≡ splice 1 (placeBytes (layoutIn l) + 4) (encode ((placeBytes (layoutIn l), c .place) ∷ (4, c .running) ∷ [])) (now (t .entry)) ⌝ }
+{
+    let weeks = l.weeks;
+    put_place(t, weeks, c.place);
+    octets::put32(t, l.lines_at - layout::RUNNING, c.running);
 }
 
 // "Each slot is free, pending or established."

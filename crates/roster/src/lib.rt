@@ -5,10 +5,10 @@ ghost use Prim.Native.Nat.{_+_, _*_, _^_, _≤_, _<_};
 ghost use lib.ListN.{length, getD};
 ghost use lib.Dec.{eqb};
 ghost use Rattle.model.specs.Lists.{every, noTwo};
-ghost use Rattle.model.specs.Table.{readLine};
+ghost use Rattle.model.specs.Table.{readLine, listed};
 ghost use Rattle.model.specs.Rules.{limitOf, shareOf, shares};
 ghost use Rattle.model.specs.Sound.{validLine, sameAddress, soundRoster};
-ghost use Rattle.layout.specs.Shape.{all, unusedFrom, linesTo, listedIn};
+ghost use Rattle.layout.specs.Shape.{listedKind, all, unusedFrom, linesTo};
 
 // An address that is not listed has share 0 and this limit.
 pub const UNLISTED_LIMIT: u8 = 4;
@@ -16,7 +16,7 @@ pub const UNLISTED_LIMIT: u8 = 4;
 // How many of 16 lines are listed: those of kind 0x03 that stand first.
 pub fn listed_lines(lines: &[u8]) -> usize
     requires { ⌜ 304 ≤ length (now lines) ⌝ }
-    ensures { λ r. ⌜ (r ≡ listedIn (now (lines .entry)) 16) × (r ≤ 16) ⌝ }
+    ensures { λ r. ⌜ (r ≡ listed (now (lines .entry)) 16) × (r ≤ 16) ⌝ }
 {
     let mut i: usize = 0;
     while i < layout::LINES {
@@ -48,7 +48,7 @@ pub fn unused_from(lines: &[u8], m: usize) -> bool
 // The first m records are of kind 0x03.
 pub fn kinds_listed(lines: &[u8], m: usize) -> bool
     requires { ⌜ (m ≤ 16) × (19 * m ≤ length (now lines)) ⌝ }
-    ensures { λ r. ⌜ r ≡ all (λ i. eqb (getD (now (lines .entry)) (19 * i) 0) 3) m ⌝ }
+    ensures { λ r. ⌜ r ≡ all (λ i. eqb (getD (now (lines .entry)) (19 * i) 0) listedKind) m ⌝ }
 {
     let mut i: usize = 0;
     while i < m {

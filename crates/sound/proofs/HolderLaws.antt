@@ -8,12 +8,12 @@ use lib.ListN.{length, getD}
 use lib.Dec.{eqb, leb}
 use borrow.Author.Tests.{eqb-true, le-leb, lt-leb}
 use Rattle.model.specs.Lists.{count, any, every, noTwo}
-use Rattle.model.specs.Table.{Line}
+use Rattle.model.specs.Table.{Line, listed}
 use Rattle.model.specs.Rules.{Holding, numbered, heldBy, limitOf, reserve}
 use Rattle.model.specs.Sound.{validLine, validEntry, sameNumber, sameQuestion, soundRoster, soundHoldings}
 use Rattle.model.specs.Calls.{goodRoster, rosterCount}
 use Rattle.model.proofs.ListLaws.{never, and-left, and-right, swap, every-not}
-use Rattle.layout.specs.Shape.{inUse, linesTo, listedIn, partsShape}
+use Rattle.layout.specs.Shape.{inUse, linesTo, partsShape}
 use Rattle.layout.specs.Held.{holdingAt, heldTo, okAt, within, rulesOf}
 use Rattle.sound.specs.Holders.{holderSound, holdersSound, entriesSound}
 use Rattle.layout.proofs.HeldLaws.{two-next, two-yes, two-no, grows-no}
@@ -78,7 +78,7 @@ module _ (r : ℕ) (lines slots : List ℕ) (n : ℕ) where
   recordsGood = partsShape lines slots n && every validEntry (heldTo r slots n)
 
   abbrev listedLines : List Line
-  listedLines = linesTo lines (listedIn lines 16)
+  listedLines = linesTo lines (listed lines 16)
 
   -- where all are good, the rules that are judged after it are left
   pub all-good : recordsGood ≡ true → partsShape lines slots n && rulesOf r lines slots n ≡ soundRoster n listedLines && entriesSound slots listedLines n

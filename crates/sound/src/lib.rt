@@ -9,7 +9,8 @@ ghost use Rattle.model.specs.Rules.{numbered, heldBy, limitOf, shareOf};
 ghost use Rattle.model.specs.Rules.{shares as sharesOf};
 ghost use Rattle.model.specs.Sound.{validLine, validEntry, sameNumber, sameAddress, soundRoster, soundBytes};
 ghost use Rattle.model.specs.Calls.{goodRoster};
-ghost use Rattle.layout.specs.Shape.{all, slotShape, linesTo, listedIn, partsShape};
+ghost use Rattle.model.specs.Table.{listed};
+ghost use Rattle.layout.specs.Shape.{all, slotShape, linesTo, partsShape};
 ghost use Rattle.layout.specs.Held.{holdingAt, heldTo, okAt, rulesOf};
 ghost use Rattle.layout.specs.Places.{LayoutFor};
 ghost use Rattle.sound.specs.Holders.{holderSound, holdersSound, beyondShare, entryBeyondShare, entriesSound};
@@ -53,7 +54,7 @@ fn slots_good(slots: &[u8], n: usize, running: u32) -> bool
 
 // Kinds, order and zeros of lines and slots are as the layout has them, and each entry meets an entry's rules; m lines are listed.
 fn records_good(lines: &[u8], slots: &[u8], n: usize, m: usize, running: u32) -> bool
-    requires { ⌜ (n ≤ 64) × (m ≤ 16) × (304 ≤ length (now lines)) × (320 * n ≤ length (now slots)) × (m ≡ listedIn (now lines) 16) ⌝ }
+    requires { ⌜ (n ≤ 64) × (m ≤ 16) × (304 ≤ length (now lines)) × (320 * n ≤ length (now slots)) × (m ≡ listed (now lines) 16) ⌝ }
     ensures { λ r. ⌜ r ≡ (partsShape (now (lines .entry)) (now (slots .entry)) n && every validEntry (heldTo running (now (slots .entry)) n)) ⌝ }
 {
     if !roster::unused_from(lines, m) {

@@ -2,7 +2,6 @@
 use clock::Clock;
 use entries::Entry;
 use layout::Layout;
-use layout::Weeks;
 use record::State;
 ghost use mathlib.Core.Path.{_≡_};
 ghost use mathlib.Core.Bool.{true};
@@ -13,7 +12,7 @@ ghost use Rattle.model.specs.Lists.{count, flat};
 ghost use Rattle.model.specs.Numbers.{bytesOf, part, splice, encode};
 ghost use Rattle.model.specs.Names.{fold};
 ghost use Rattle.model.specs.Clock.{cycleOf};
-ghost use Rattle.model.specs.Table.{placeWith, placeBytes, sizeOf, readTable, tableBytes, slotBytes, unusedLine};
+ghost use Rattle.model.specs.Table.{kindOf, sizeOf, readTable, tableBytes, slotBytes, unusedLine};
 ghost use Rattle.model.specs.Serve.{ended, slotRunOut, freeIfRunOut, movedOn};
 ghost use Rattle.model.specs.Calls.{freedBy, goodRoster};
 ghost use Rattle.layout.specs.Shape.{slotsTo};
@@ -94,7 +93,7 @@ pub fn put_entry(slots: &mut [u8], i: usize, e: Entry, d: &[u8], at: usize)
 // The entry of slot i is established: its state alone.
 pub fn establish_at(slots: &mut [u8], i: usize)
     requires { ⌜ 320 * (i + 1) ≤ length (now slots) ⌝ }
-    ensures { λ _. ⌜ now (slots .exit) ≡ splice (320 * i) 1 (bytesOf 1 6) (now (slots .entry)) ⌝ }
+    ensures { λ _. ⌜ now (slots .exit) ≡ splice (320 * i) 1 (bytesOf 1 (kindOf true)) (now (slots .entry)) ⌝ }
 {
     let a = layout::SLOT * i;
     octets::put8(slots, a, record::kind_byte(State::Established))
@@ -111,27 +110,6 @@ pub fn renew_at(slots: &mut [u8], i: usize, lease: u32, stamp: u32)
 }
 
 // THE CLOCK, AND WHAT HAS RUN OUT
-
-// The last place is written, in as many bytes as its weeks have.
-fn put_place(t: &mut [u8], weeks: Weeks, place: u64)
-    requires { ⌜ (9 ≤ length (now t)) × (place < cycleOf (weeksOf weeks)) ⌝ }
-    ensures { λ _. ⌜ now (t .exit) ≡ splice 1 (placeWith (weeksOf weeks)) (bytesOf (placeWith (weeksOf weeks)) place) (now (t .entry)) ⌝ }
-{
-    match weeks {
-        Weeks::Ten => octets::put32(t, layout::PLACE_AT, place as u32),
-        Weeks::Thirteen => octets::put64(t, layout::PLACE_AT, place),
-    }
-}
-
-// The clock's two numbers are written.
-fn put_clock(t: &mut [u8], l: Layout, c: Clock)
-    requires { ⌜ LayoutFor l (length (now t)) × (l .«slots_at» ≤ length (now t)) × (c .place < cycleOf (weeksOf (l .weeks))) ⌝ }
-    ensures { λ _. ⌜ now (t .exit) ≡ splice 1 (placeBytes (layoutIn l) + 4) (encode ((placeBytes (layoutIn l), c .place) ∷ (4, c .running) ∷ [])) (now (t .entry)) ⌝ }
-{
-    let weeks = l.weeks;
-    put_place(t, weeks, c.place);
-    octets::put32(t, l.lines_at - layout::RUNNING, c.running);
-}
 
 // Entries that have run out end. Returns how many there were.
 fn free_run_out(slots: &mut [u8], n: usize, running: u32) -> usize
@@ -158,7 +136,7 @@ pub fn move_on(t: &mut [u8], l: Layout, place: u64) -> usize
     let weeks = l.weeks;
     let c = record::clock_at(t, l);
     let d = clock::advanced(c, weeks, place);
-    put_clock(t, l, d);
+    record::put_clock(t, l, d);
     if d.running == c.running {
         return 0;
     }
@@ -212,7 +190,7 @@ pub fn make_fresh(t: &mut [u8], l: Layout, place: u64, roster: &[u8])
     let a = l.lines_at;
     let z = l.slots_at;
     octets::put8(t, 0, layout::clock_kind(weeks));
-    put_clock(t, l, Clock { place, running: 0 });
+    record::put_clock(t, l, Clock { place, running: 0 });
     octets::copy(t, a, roster, 0, k);
     clear_lines(&mut t[a..], k / layout::LINE);
     clear_slots(&mut t[z..], l.n);

@@ -4,7 +4,7 @@ use native.Mathlib.Omega.{arith}
 use mathlib.Core.Path.{_≡_, ap, _∙_}
 use lib.Dec.{lit≤}
 use Rattle.model.specs.Clock.{Weeks, tenBit, thirteenBit}
-use Rattle.model.specs.Table.{placeWith, linesAt, layoutOf}
+use Rattle.model.specs.Table.{placeWidth, linesAt, layoutOf}
 use borrow.Author.Needs.{needs}
 use Rattle.layout.proofs.of.Statement.{statement}
 use Rattle.layout.proofs.of.Tie as tie
@@ -19,7 +19,7 @@ weeks-of-requires c κs = search needs
 lines-at-requires : tie.Need-lines-at-requires
 lines-at-requires c κs = search needs
 
-place-most : (w : Weeks) → placeWith w ≤ 8
+place-most : (w : Weeks) → placeWidth w ≤ 8
 place-most tenBit = lit≤ tt
 place-most thirteenBit = lit≤ tt
 

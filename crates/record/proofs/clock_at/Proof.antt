@@ -1,4 +1,5 @@
 -- `record::clock_at` meets its contract: place and running count. Assumes nothing.
+use native.Mathlib.Omega.{arith}
 use mathlib.Core.Path.{ap, _∙_}
 use Rattle.model.specs.Numbers.{bigEndian}
 use Rattle.model.specs.Table.{Layout, placeBytes, readTable}
@@ -11,7 +12,7 @@ use Rattle.record.proofs.place_at.Reads as place-at-reads
 use Rattle.record.proofs.running_count.Reads as running-count-reads
 
 place-at-requires : tie.Need-place-at-requires
-place-at-requires c κs = search needs
+place-at-requires c κs = let same = ap placeBytes (c .before .pre .0 .0) in omega (arith, c .before .pre, same)
 
 running-count-requires : tie.Need-running-count-requires
 running-count-requires c κs = search needs

@@ -3,21 +3,21 @@ use Prim.Native.Nat.{_-_, _≤_}
 use mathlib.Core.Path.{_≡_, refl, sym}
 use native.Mathlib.Omega.{arith}
 use borrow.Author.Needs.{needs}
-use Rattle.layout.specs.Shape.{listedIn}
-use Rattle.layout.proofs.ListedLaws.{listed-more, listed-stop}
+use Rattle.model.specs.Table.{listed}
+use Rattle.model.proofs.RoundTrip.{listed-more, listed-stop}
 use Rattle.roster.proofs.listed_lines.Statement.{statement}
 use Rattle.roster.proofs.listed_lines.Tie as tie
 use Rattle.roster.proofs.listed_lines.Reads as reads
 use Rattle.roster.proofs.listed_lines.Lts as lts
 
 abbrev Inv-loop : tie.InvT-loop
-Inv-loop t i₀ i = (i ≤ 16) × (listedIn t i ≡ i)
+Inv-loop t i₀ i = (i ≤ 16) × (listed t i ≡ i)
 
 abbrev μ-loop : tie.MeasureT-loop
 μ-loop t i₀ i = 16 - i
 
 loop-holds : tie.Need-loop-holds Inv-loop μ-loop
-unfolding listedIn
+unfolding listed
 loop-holds c = (search needs, refl)
 
 mul-if1 : tie.Need-mul-if1 Inv-loop μ-loop

@@ -18,7 +18,7 @@ use Rattle.octets.proofs.copy.Reads as copy-reads
 use Rattle.octets.proofs.put8.Reads as put8-reads
 use Rattle.table.proofs.clear_lines.Reads as clear-lines-reads
 use Rattle.table.proofs.clear_slots.Reads as clear-slots-reads
-use Rattle.table.proofs.put_clock.Reads as put-clock-reads
+use Rattle.record.proofs.put_clock.Reads as put-clock-reads
 
 clock-kind-requires : tie.Need-clock-kind-requires
 clock-kind-requires c κs = search needs

@@ -23,7 +23,7 @@ use Rattle.table.proofs.move_on.Lts as lts
 use Rattle.clock.proofs.advanced.Reads as advanced-reads
 use Rattle.record.proofs.clock_at.Reads as clock-at-reads
 use Rattle.table.proofs.free_run_out.Reads as free-run-out-reads
-use Rattle.table.proofs.put_clock.Reads as put-clock-reads
+use Rattle.record.proofs.put_clock.Reads as put-clock-reads
 
 -- the bytes lent, and how many they are
 bytes : (c : tie.After-slice-known) → Bytes (c .before .args .t .now)

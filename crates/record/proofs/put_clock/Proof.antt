@@ -1,4 +1,4 @@
--- `table::put_clock` meets its contract: the place, and behind it the count. Assumes nothing.
+-- `record::put_clock` meets its contract: the place, and behind it the count. Assumes nothing.
 use Prim.Native.Nat.{ℕ, _+_, _-_}
 use native.Mathlib.Omega.{arith}
 use mathlib.Core.Path.{_≡_, ap, _∙_}
@@ -8,15 +8,18 @@ use Rattle.model.specs.Table.{placeBytes}
 use Rattle.model.proofs.NumberLaws.{writes-eq}
 use Rattle.layout.specs.Places.{layoutIn}
 use borrow.Author.Needs.{needs}
-use Rattle.table.proofs.put_clock.Statement.{statement}
-use Rattle.table.proofs.put_clock.Tie as tie
-use Rattle.table.proofs.put_clock.Reads as reads
-use Rattle.table.proofs.put_clock.Lts as lts
+use Rattle.record.proofs.put_clock.Statement.{statement}
+use Rattle.record.proofs.put_clock.Tie as tie
+use Rattle.record.proofs.put_clock.Reads as reads
+use Rattle.record.proofs.put_clock.Lts as lts
 use Rattle.octets.proofs.put32.Reads as put32-reads
-use Rattle.table.proofs.put_place.Reads as put-place-reads
+use Rattle.record.proofs.put_place.Reads as put-place-reads
 
 put-place-requires : tie.Need-put-place-requires
-put-place-requires c κs = search needs
+put-place-requires c κs =
+    let z = c .before .before in
+    let same = ap placeBytes (z .pre .0 .0) in
+    (omega (arith, z .pre, same), z .pre .2)
 
 sub-put32 : tie.Need-sub-put32
 sub-put32 c = search needs
