@@ -1,5 +1,6 @@
 // Where a table's records lie in its bytes: document 01, "The table". Each of these numbers stands here alone.
 ghost use mathlib.Core.Path.{_≡_};
+ghost use Prim.Native.Nat.{_-_, _/_, _<_};
 ghost use Rattle.model.specs.Table.{kindWith, linesAt, layoutOf};
 ghost use Rattle.model.specs.Calls.{tableLength};
 ghost use Rattle.layout.specs.Weeks.{weeksOf};
@@ -100,11 +101,11 @@ pub fn clock_kind(weeks: Weeks) -> u8
 }
 
 // How a table is laid out: the weeks that its clock counts, where its lines and slots start, and how many slots there are. It is worked out once a
-// call from the table's length.
+// call from the table's length. Both places are below 320, and kept in 16 bits: what is handed on is two words.
 pub struct Layout {
     pub weeks: Weeks,
-    pub lines_at: usize,
-    pub slots_at: usize,
+    pub lines_at: u16,
+    pub slots_at: u16,
     pub n: usize,
 }
 
@@ -127,6 +128,21 @@ fn lines_at(weeks: Weeks) -> usize
     }
 }
 
+// How many slots fit behind a place. By the quotient and the rest that tell the weeks too, so that the length is divided once.
+fn slots_behind(size: usize, at: usize) -> usize
+    requires { ⌜ at < 320 ⌝ }
+    ensures { λ r. ⌜ r ≡ (size - at) / 320 ⌝ }
+{
+    let n = size / SLOT;
+    if size % SLOT >= at {
+        return n;
+    }
+    if n == 0 {
+        return 0;
+    }
+    n - 1
+}
+
 // The layout of a table of this length.
 pub fn of(size: usize) -> Layout
     ensures { λ r. ⌜ LayoutFor r size ⌝ }
@@ -134,19 +150,11 @@ pub fn of(size: usize) -> Layout
     let weeks = weeks_of(size);
     let lines_at = lines_at(weeks);
     let slots_at = lines_at + ROSTER;
-    if size < slots_at {
-        return Layout {
-            weeks,
-            lines_at,
-            slots_at,
-            n: 0,
-        };
-    }
-    let n = (size - slots_at) / SLOT;
+    let n = slots_behind(size, slots_at);
     Layout {
         weeks,
-        lines_at,
-        slots_at,
+        lines_at: lines_at as u16,
+        slots_at: slots_at as u16,
         n,
     }
 }
@@ -162,5 +170,5 @@ pub fn table_length(size: usize, l: Layout) -> bool
     if l.n > SLOTS_MOST {
         return false;
     }
-    size == l.slots_at + SLOT * l.n
+    size == l.slots_at as usize + SLOT * l.n
 }

@@ -5,7 +5,7 @@ ghost use mathlib.Core.List.{map};
 ghost use Prim.Native.Nat.{_+_, _≤_, _<_};
 ghost use lib.ListN.{length};
 ghost use lib.Dec.{eqb};
-ghost use Rattle.model.specs.Lists.{bit};
+ghost use Rattle.model.specs.Lists.{bit, same};
 ghost use Rattle.model.specs.Numbers.{part, splice};
 ghost use Rattle.model.specs.Names.{fold, compared, lowerName};
 ghost use Rattle.names.specs.Comparison.{comparedOf};
@@ -72,19 +72,13 @@ fn compare_bytes(t: &[u8], a: usize, c: usize, n: usize) -> Compared
     }
 }
 
-// The stored name of m bytes at a and the stored one of n bytes at c, as they lie: both were folded when they were stored. Eight pairs that all
-// agree are passed by one test of a word, and all eight count; in the first word that differs, and behind the last whole word, pairs are looked at
-// one by one. In a word that differs the answer does not wait for the count, so that where the count is not read the compiler leaves it out.
-pub fn compare_stored(t: &[u8], a: usize, m: usize, c: usize, n: usize) -> Compared
-    requires { ⌜ (a + m ≤ length (now t)) × (c + n ≤ length (now t)) ⌝ }
-    ensures { λ r. ⌜ comparedOf r ≡ compared (part a m (now (t .entry))) (part c n (now (t .entry))) ⌝ }
+// The n bytes at a and the n at c, as they lie. Eight pairs that all agree are passed by one test of a word, and all eight count; in the first word
+// that differs, and behind the last whole word, pairs are looked at one by one. In a word that differs the answer does not wait for the count, so
+// that where the count is not read the compiler leaves it out.
+fn compare_words(t: &[u8], a: usize, c: usize, n: usize) -> Compared
+    requires { ⌜ (a + n ≤ length (now t)) × (c + n ≤ length (now t)) ⌝ }
+    ensures { λ r. ⌜ comparedOf r ≡ compared (part a n (now (t .entry))) (part c n (now (t .entry))) ⌝ }
 {
-    if m != n {
-        return Compared {
-            same: false,
-            pairs: 0,
-        };
-    }
     let words = n / 8;
     let mut i: usize = 0;
     while i < words {
@@ -101,6 +95,48 @@ pub fn compare_stored(t: &[u8], a: usize, m: usize, c: usize, n: usize) -> Compa
     Compared {
         same: rest.same,
         pairs: 8 * words + rest.pairs,
+    }
+}
+
+// The two words at a and the two at c are the same.
+fn two_words(t: &[u8], a: usize, c: usize) -> bool
+    requires { ⌜ (a + 16 ≤ length (now t)) × (c + 16 ≤ length (now t)) ⌝ }
+    ensures { λ r. ⌜ r ≡ same (part a 16 (now (t .entry))) (part c 16 (now (t .entry))) ⌝ }
+{
+    if octets::get64(t, a) != octets::get64(t, c) {
+        return false;
+    }
+    octets::get64(t, a + 8) == octets::get64(t, c + 8)
+}
+
+// The stored name of m bytes at a and the stored one of n bytes at c, as they lie: both were folded when they were stored. Two words that agree are
+// passed in one turn; where they do not, and behind the last two, words are looked at one by one.
+pub fn compare_stored(t: &[u8], a: usize, m: usize, c: usize, n: usize) -> Compared
+    requires { ⌜ (a + m ≤ length (now t)) × (c + n ≤ length (now t)) ⌝ }
+    ensures { λ r. ⌜ comparedOf r ≡ compared (part a m (now (t .entry))) (part c n (now (t .entry))) ⌝ }
+{
+    if m != n {
+        return Compared {
+            same: false,
+            pairs: 0,
+        };
+    }
+    let twos = n / 16;
+    let mut i: usize = 0;
+    while i < twos {
+        if !two_words(t, a + 16 * i, c + 16 * i) {
+            let found = compare_words(t, a + 16 * i, c + 16 * i, 16);
+            return Compared {
+                same: false,
+                pairs: 16 * i + found.pairs,
+            };
+        }
+        i += 1;
+    }
+    let rest = compare_words(t, a + 16 * twos, c + 16 * twos, n % 16);
+    Compared {
+        same: rest.same,
+        pairs: 16 * twos + rest.pairs,
     }
 }
 

@@ -124,7 +124,7 @@ fn grant(
     ensures { λ x. ⌜ ServedAs (granted (senderOf s) r (questionOf (now (d .entry)) q) (optionOf o) (readTable (now (t .entry)))) (now (t .exit)) x ⌝ }
 {
     let n = l.n;
-    let a = l.slots_at;
+    let a = l.slots_at as usize;
     let number = entries::fresh_number(&t[a..], n, r);
     let lease = granted_lease(o.lease);
     let j = entries::find_free(&t[a..], n);
@@ -160,7 +160,7 @@ fn serve_setup(
     ensures { λ x. ⌜ ServedAs (serveSetup (senderOf s) r (questionOf (now (d .entry)) q) (optionOf o) (readTable (now (t .entry)))) (now (t .exit)) x ⌝ }
 {
     let n = l.n;
-    let a = l.slots_at;
+    let a = l.slots_at as usize;
     match entries::find_asked(&t[a..], n, s, d, q) {
         Found::Slot(_, e) => {
             let number = e.number;
@@ -171,7 +171,7 @@ fn serve_setup(
             )
         }
         Found::Nothing => {
-            let f = l.lines_at;
+            let f = l.lines_at as usize;
             if entries::is_full(&t[f..], &t[a..], n, s.high, s.low) {
                 return served(o, Outcome::Full);
             }
@@ -192,7 +192,7 @@ fn serve_response(
     ensures { λ x. ⌜ ServedAs (serveResponse (senderOf s) (questionOf (now (d .entry)) q) (optionOf o) (readTable (now (t .entry)))) (now (t .exit)) x ⌝ }
 {
     let asked = o.number;
-    let a = l.slots_at;
+    let a = l.slots_at as usize;
     let running = record::running_count(t, l);
     match entries::find_answered(&t[a..], l.n, running, s, d, q, asked, o.lease) {
         Found::Slot(i, e) => {
@@ -217,7 +217,7 @@ fn serve_refresh(
     ensures { λ x. ⌜ ServedAs (serveRefresh (senderOf s) (questionOf (now (d .entry)) q) (optionOf o) (readTable (now (t .entry)))) (now (t .exit)) x ⌝ }
 {
     let asked = o.number;
-    let a = l.slots_at;
+    let a = l.slots_at as usize;
     match entries::find_refreshed(&t[a..], l.n, s, d, q, asked) {
         Found::Slot(i, e) => {
             let number = e.number;

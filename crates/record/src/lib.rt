@@ -39,7 +39,7 @@ pub fn running_count(t: &[u8], l: Layout) -> u32
     requires { ⌜ LayoutFor l (length (now t)) × (l .«slots_at» ≤ length (now t)) ⌝ }
     ensures { λ r. ⌜ r ≡ bigEndian (now (t .entry)) (runningAt (layoutOf (length (now (t .entry))))) 4 ⌝ }
 {
-    octets::get32(t, l.lines_at - layout::RUNNING)
+    octets::get32(t, l.lines_at as usize - layout::RUNNING)
 }
 
 // The clock's record.
@@ -72,7 +72,7 @@ pub fn put_clock(t: &mut [u8], l: Layout, c: Clock)
 {
     let weeks = l.weeks;
     put_place(t, weeks, c.place);
-    octets::put32(t, l.lines_at - layout::RUNNING, c.running);
+    octets::put32(t, l.lines_at as usize - layout::RUNNING, c.running);
 }
 
 // "Each slot is free, pending or established."

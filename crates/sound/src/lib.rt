@@ -141,10 +141,10 @@ fn numbers_apart(slots: &[u8], n: usize) -> bool
         if record::in_use(slots[a]) {
             let x = slots[a + layout::NUMBER_LAST] as usize;
             let p = earlier(first[x], i);
+            first[x] = p as u8;
             if !number_apart(slots, p, i, a) {
                 return false;
             }
-            first[x] = p as u8;
         }
         i += 1;
     }
@@ -163,10 +163,10 @@ fn holders_sound(lines: &[u8], slots: &[u8], n: usize, m: usize) -> bool
         if record::in_use(slots[a]) {
             let y = slots[a + layout::ADDRESS_LAST] as usize;
             let p = earlier(first[y], i);
+            first[y] = p as u8;
             if !holder_sound(lines, slots, p, i, a, m) {
                 return false;
             }
-            first[y] = p as u8;
         }
         i += 1;
     }
@@ -323,9 +323,10 @@ pub fn sound(t: &[u8], l: Layout) -> bool
     if c.place >= clock::cycle(weeks) {
         return false;
     }
-    let a = l.lines_at;
-    let z = l.slots_at;
-    parts_sound(&t[a..], &t[z..], n, c.running)
+    let a = l.lines_at as usize;
+    let lines = &t[a..];
+    let z = layout::ROSTER;
+    parts_sound(lines, &lines[z..], n, c.running)
 }
 
 // The bytes are 0 to 16 records of kind 0x03 that meet the roster rules of n slots.

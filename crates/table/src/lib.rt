@@ -140,7 +140,7 @@ pub fn move_on(t: &mut [u8], l: Layout, place: u64) -> usize
     if d.running == c.running {
         return 0;
     }
-    let a = l.slots_at;
+    let a = l.slots_at as usize;
     free_run_out(&mut t[a..], l.n, d.running)
 }
 
@@ -187,8 +187,8 @@ pub fn make_fresh(t: &mut [u8], l: Layout, place: u64, roster: &[u8])
 {
     let k = roster.len();
     let weeks = l.weeks;
-    let a = l.lines_at;
-    let z = l.slots_at;
+    let a = l.lines_at as usize;
+    let z = l.slots_at as usize;
     octets::put8(t, 0, layout::clock_kind(weeks));
     record::put_clock(t, l, Clock { place, running: 0 });
     octets::copy(t, a, roster, 0, k);

@@ -18,6 +18,9 @@ returns-2 c =
     let l = at .args .l in
     rw (← (at .pre .3), le-leb 1 (l .n) (c .before .before .if1 .left), lt-leb (l .n) 64 (c .if2 .taken))
 
+cast-result : tie.Need-cast-result
+cast-result c = search needs
+
 mul-result : tie.Need-mul-result
 mul-result c = search needs
 
@@ -32,4 +35,4 @@ returns-3 c =
     rw (← (at .pre .3), le-leb 1 (l .n) (c .before .before .before .before .if1 .left), le-leb (l .n) 64 (c .before .before .if2 .left), ← (at .pre .2))
 
 pub table-length-spec : {M : Type 1} → statement M
-table-length-spec = tie.close (tie.spec returns returns-2 mul-result add-result returns-3)
+table-length-spec = tie.close (tie.spec returns returns-2 cast-result mul-result add-result returns-3)

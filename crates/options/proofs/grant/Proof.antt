@@ -23,6 +23,9 @@ use Rattle.options.proofs.granted_lease.Reads as granted-lease-reads
 use Rattle.options.proofs.served.Reads as served-reads
 use Rattle.table.proofs.put_entry.Reads as put-entry-reads
 
+cast-a : tie.Need-cast-a
+cast-a c = search needs
+
 sub-fresh-number : tie.Need-sub-fresh-number
 sub-fresh-number c = search needs
 
@@ -58,9 +61,9 @@ same-length c = search needs
 
 returns : tie.Need-returns
 returns c =
-    let z = c .before .before .before .before .before .before .before .before .before .before .before in
+    let z = c .before .before .before .before .before .before .before .before .before .before .before .before in
     let a = z .args in
-    let bytes : Bytes (a .t .now) = λ j. omega (arith, c .before .before .before .before .before .before .before .before .before .before .slice-known .given j) in
+    let bytes : Bytes (a .t .now) = λ j. omega (arith, c .before .before .before .before .before .before .before .before .before .before .before .slice-known .given j) in
     law.grant-none (a .t .now) bytes (z .pre .0) (a .l .n) (z .pre .2) (a .s) (a .r) (questionOf (a .d .now) (a .q)) (a .o) (rw (tail-is (a .t .now) (z .pre .1 .2)) at (c .before .before .before .before .before .before .fresh-number .ensures)) (c .before .before .before .before .before .granted-lease .ensures) (rw (tail-is (a .t .now) (z .pre .1 .2)) at (c .before .before .find-free .ensures)) (c .before .if1 .taken) _ (c .served .ensures)
 
 running-count-requires : tie.Need-running-count-requires
@@ -92,9 +95,9 @@ same-length-2 c = search needs
 
 returns-2 : tie.Need-returns-2
 returns-2 c =
-    let z = c .before .before .before .before .before .before .before .before .before .before .before .before .before .before .before .before .before .before .before in
+    let z = c .before .before .before .before .before .before .before .before .before .before .before .before .before .before .before .before .before .before .before .before in
     let a = z .args in
-    let bytes : Bytes (a .t .now) = λ j. omega (arith, c .before .before .before .before .before .before .before .before .before .before .before .before .before .before .before .before .before .before .slice-known .given j) in
+    let bytes : Bytes (a .t .now) = λ j. omega (arith, c .before .before .before .before .before .before .before .before .before .before .before .before .before .before .before .before .before .before .before .slice-known .given j) in
     let w = part (a .q .start) (a .q .len) (a .d .now) in
     let n : length (map fold w) ≡ a .q .len = folded-length (a .d .now) (a .q .start) (a .q .len) (z .pre .3) in
     law.grant-written (a .t .now) bytes (z .pre .0) (a .l .n) (z .pre .2) (a .s) (a .r) (questionOf (a .d .now) (a .q)) (a .o) (rw (tail-is (a .t .now) (z .pre .1 .2)) at (c .before .before .before .before .before .before .before .before .before .before .before .before .before .before .fresh-number .ensures)) (c .before .before .before .before .before .before .before .before .before .before .before .before .before .granted-lease .ensures) (rw (tail-is (a .t .now) (z .pre .1 .2)) at (c .before .before .before .before .before .before .before .before .before .before .find-free .ensures)) _ _ (c .before .before .before .before .before .before .before .running-count .ensures) (c .before .before .before .before .before .before .before .before .before .if1 .left)
@@ -107,7 +110,7 @@ returns-2 c =
       qtype = omega (arith, z);
       qclass = omega (arith, z);
       size = omega (arith, n, z .pre .4);
-      bytes = bytes-fold w (bytes-part (a .q .start) (a .q .len) (a .d .now) (λ j. omega (arith, c .before .before .before .before .before .before .before .before .before .before .before .before .before .before .before .before .before .shared-slice-known .given j)));
+      bytes = bytes-fold w (bytes-part (a .q .start) (a .q .len) (a .d .now) (λ j. omega (arith, c .before .before .before .before .before .before .before .before .before .before .before .before .before .before .before .before .before .before .shared-slice-known .given j)));
     })
     _ (tail-written (a .t .now) _ 320 _ (z .pre .1 .2) (c .before .before .before .put-entry .ensures)) _ (c .served2 .ensures)
 
@@ -115,6 +118,7 @@ pub grant-spec : {M : Type 1} → statement M
 grant-spec =
     tie.close
     (tie.spec
+    cast-a
     sub-fresh-number
     part-fresh-number-start
     part-fresh-number-end

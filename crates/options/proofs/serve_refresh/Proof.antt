@@ -20,6 +20,9 @@ use Rattle.options.proofs.served.Reads as served-reads
 use Rattle.table.proofs.end_entry.Reads as end-entry-reads
 use Rattle.table.proofs.renew_at.Reads as renew-at-reads
 
+cast-a : tie.Need-cast-a
+cast-a c = search needs
+
 sub-find-refreshed : tie.Need-sub-find-refreshed
 sub-find-refreshed c = search needs
 
@@ -46,7 +49,7 @@ part-end-entry-end c = search needs
 
 end-entry-requires : tie.Need-end-entry-requires
 end-entry-requires c κs =
-    let z = c .before .before .before .before .before .before .before .before .before .before .before .before .before in
+    let z = c .before .before .before .before .before .before .before .before .before .before .before .before .before .before in
     let a = z .args in
     let w = rw (tail-is (a .t .now) (z .pre .1 .2)) at (c .before .before .before .before .before .before .before .find-refreshed .ensures) in
     let f = found-is (drop (base (layoutOf (length (a .t .now)))) (a .t .now)) (a .l .n) _ _ _ (sym w ∙ c .before .before .before .before .before .i .given .1) in
@@ -60,9 +63,9 @@ same-length c = search needs
 
 returns : tie.Need-returns
 returns c =
-    let z = c .before .before .before .before .before .before .before .before .before .before .before .before .before .before .before .before .before in
+    let z = c .before .before .before .before .before .before .before .before .before .before .before .before .before .before .before .before .before .before in
     let a = z .args in
-    let bytes : Bytes (a .t .now) = λ j. omega (arith, c .before .before .before .before .before .before .before .before .before .before .before .before .before .before .before .before .slice-known .given j) in
+    let bytes : Bytes (a .t .now) = λ j. omega (arith, c .before .before .before .before .before .before .before .before .before .before .before .before .before .before .before .before .before .slice-known .given j) in
     let w = rw (tail-is (a .t .now) (z .pre .1 .2)) at (c .before .before .before .before .before .before .before .before .before .before .before .find-refreshed .ensures) in
     let f = found-is (drop (base (layoutOf (length (a .t .now)))) (a .t .now)) (a .l .n) _ _ _ (sym w ∙ c .before .before .before .before .before .before .before .before .before .i .given .1) in
     law.refresh-end (a .t .now) bytes (z .pre .0) (a .l .n) (z .pre .2) (a .s) 0 (questionOf (a .d .now) (a .q)) (a .o) (f .0) (f .1) _ (f .2) (c .before .before .before .before .before .if1 .taken) _ (tail-written (a .t .now) _ 320 _ (z .pre .1 .2) (c .before .before .before .end-entry .ensures)) _ (c .served .ensures)
@@ -84,7 +87,7 @@ part-renew-at-end c = search needs
 
 renew-at-requires : tie.Need-renew-at-requires
 renew-at-requires c κs =
-    let z = c .before .before .before .before .before .before .before .before .before .before .before .before .before .before .before .before in
+    let z = c .before .before .before .before .before .before .before .before .before .before .before .before .before .before .before .before .before in
     let a = z .args in
     let w = rw (tail-is (a .t .now) (z .pre .1 .2)) at (c .before .before .before .before .before .before .before .before .before .before .find-refreshed .ensures) in
     let f = found-is (drop (base (layoutOf (length (a .t .now)))) (a .t .now)) (a .l .n) _ _ _ (sym w ∙ c .before .before .before .before .before .before .before .before .i .given .1) in
@@ -104,9 +107,9 @@ same-length-2 c = search needs
 
 returns-2 : tie.Need-returns-2
 returns-2 c =
-    let z = c .before .before .before .before .before .before .before .before .before .before .before .before .before .before .before .before .before .before .before .before in
+    let z = c .before .before .before .before .before .before .before .before .before .before .before .before .before .before .before .before .before .before .before .before .before in
     let a = z .args in
-    let bytes : Bytes (a .t .now) = λ j. omega (arith, c .before .before .before .before .before .before .before .before .before .before .before .before .before .before .before .before .before .before .before .slice-known .given j) in
+    let bytes : Bytes (a .t .now) = λ j. omega (arith, c .before .before .before .before .before .before .before .before .before .before .before .before .before .before .before .before .before .before .before .before .slice-known .given j) in
     let w = rw (tail-is (a .t .now) (z .pre .1 .2)) at (c .before .before .before .before .before .before .before .before .before .before .before .before .before .before .find-refreshed .ensures) in
     let f = found-is (drop (base (layoutOf (length (a .t .now)))) (a .t .now)) (a .l .n) _ _ _ (sym w ∙ c .before .before .before .before .before .before .before .before .before .before .before .before .i .given .1) in
     law.refresh-renew (a .t .now) bytes (z .pre .0) (a .l .n) (z .pre .2) (a .s) 0 (questionOf (a .d .now) (a .q)) (a .o) (f .0) (f .1) _ (f .2) (c .before .before .before .before .before .before .before .before .if1 .left) _ _ (c .before .before .before .before .before .before .before .granted-lease .ensures) (c .before .before .before .before .before .running-count .ensures) _ (tail-written (a .t .now) _ 8 _ (z .pre .1 .2) (c .before .before .before .renew-at .ensures)) _ (c .served2 .ensures)
@@ -116,9 +119,9 @@ same-length-3 c = search needs
 
 returns-3 : tie.Need-returns-3
 returns-3 c =
-    let z = c .before .before .before .before .before .before .before .before .before in
+    let z = c .before .before .before .before .before .before .before .before .before .before in
     let a = z .args in
-    let bytes : Bytes (a .t .now) = λ j. omega (arith, c .before .before .before .before .before .before .before .before .slice-known .given j) in
+    let bytes : Bytes (a .t .now) = λ j. omega (arith, c .before .before .before .before .before .before .before .before .before .slice-known .given j) in
     let w = rw (tail-is (a .t .now) (z .pre .1 .2)) at (c .before .before .before .find-refreshed .ensures) in
     let f = nothing-is (drop (base (layoutOf (length (a .t .now)))) (a .t .now)) (a .l .n) _ (sym w ∙ c .before .enum-told .given .1) in
     law.refresh-none (a .t .now) bytes (z .pre .0) (a .l .n) (z .pre .2) (a .s) 0 (questionOf (a .d .now) (a .q)) (a .o) refl f _ (c .served3 .ensures)
@@ -127,6 +130,7 @@ pub serve-refresh-spec : {M : Type 1} → statement M
 serve-refresh-spec =
     tie.close
     (tie.spec
+    cast-a
     sub-find-refreshed
     part-find-refreshed-start
     part-find-refreshed-end

@@ -19,6 +19,9 @@ use Rattle.options.proofs.life_left.Reads as life-left-reads
 use Rattle.options.proofs.served.Reads as served-reads
 use Rattle.table.proofs.establish_at.Reads as establish-at-reads
 
+cast-a : tie.Need-cast-a
+cast-a c = search needs
+
 running-count-requires : tie.Need-running-count-requires
 running-count-requires c κs = search needs
 
@@ -51,7 +54,7 @@ part-establish-at-end c = search needs
 
 establish-at-requires : tie.Need-establish-at-requires
 establish-at-requires c κs =
-    let z = c .before .before .before .before .before .before .before .before .before .before .before .before .before .before in
+    let z = c .before .before .before .before .before .before .before .before .before .before .before .before .before .before .before in
     let a = z .args in
     let w = rw (tail-is (a .t .now) (z .pre .1 .2)) at (c .before .before .before .before .before .before .find-answered .ensures) in
     let f = found-is (drop (base (layoutOf (length (a .t .now)))) (a .t .now)) (a .l .n) _ _ _ (sym w ∙ c .before .before .before .before .i .given .1) in
@@ -71,9 +74,9 @@ same-length c = search needs
 
 returns : tie.Need-returns
 returns c =
-    let z = c .before .before .before .before .before .before .before .before .before .before .before .before .before .before .before .before .before .before in
+    let z = c .before .before .before .before .before .before .before .before .before .before .before .before .before .before .before .before .before .before .before in
     let a = z .args in
-    let bytes : Bytes (a .t .now) = λ j. omega (arith, c .before .before .before .before .before .before .before .before .before .before .before .before .before .before .before .before .before .slice-known .given j) in
+    let bytes : Bytes (a .t .now) = λ j. omega (arith, c .before .before .before .before .before .before .before .before .before .before .before .before .before .before .before .before .before .before .slice-known .given j) in
     let w = rw (tail-is (a .t .now) (z .pre .1 .2)) at (c .before .before .before .before .before .before .before .before .before .before .find-answered .ensures) in
     let f = found-is (drop (base (layoutOf (length (a .t .now)))) (a .t .now)) (a .l .n) _ _ _ (sym w ∙ c .before .before .before .before .before .before .before .before .i .given .1) in
     law.response-found (a .t .now) bytes (z .pre .0) (a .l .n) (z .pre .2) (a .s) 0 (questionOf (a .d .now) (a .q)) (a .o) (c .before .before .before .before .before .before .before .before .before .before .before .before .before .running-count .ensures) (f .0) (f .1) _ (f .2) _ (c .before .before .before .before .before .life-left .ensures) _ (tail-written (a .t .now) _ 1 _ (z .pre .1 .2) (c .before .before .before .establish-at .ensures)) _ (c .served .ensures)
@@ -83,9 +86,9 @@ same-length-2 c = search needs
 
 returns-2 : tie.Need-returns-2
 returns-2 c =
-    let z = c .before .before .before .before .before .before .before .before .before .before .before in
+    let z = c .before .before .before .before .before .before .before .before .before .before .before .before in
     let a = z .args in
-    let bytes : Bytes (a .t .now) = λ j. omega (arith, c .before .before .before .before .before .before .before .before .before .before .slice-known .given j) in
+    let bytes : Bytes (a .t .now) = λ j. omega (arith, c .before .before .before .before .before .before .before .before .before .before .before .slice-known .given j) in
     let w = rw (tail-is (a .t .now) (z .pre .1 .2)) at (c .before .before .before .find-answered .ensures) in
     let f = nothing-is (drop (base (layoutOf (length (a .t .now)))) (a .t .now)) (a .l .n) _ (sym w ∙ c .before .enum-told .given .1) in
     law.response-none (a .t .now) bytes (z .pre .0) (a .l .n) (z .pre .2) (a .s) 0 (questionOf (a .d .now) (a .q)) (a .o) (c .before .before .before .before .before .before .running-count .ensures) refl f _ (c .served2 .ensures)
@@ -94,6 +97,7 @@ pub serve-response-spec : {M : Type 1} → statement M
 serve-response-spec =
     tie.close
     (tie.spec
+    cast-a
     running-count-requires
     sub-find-answered
     part-find-answered-start

@@ -20,6 +20,9 @@ use Rattle.options.proofs.grant.Reads as grant-reads
 use Rattle.options.proofs.life_left.Reads as life-left-reads
 use Rattle.options.proofs.served.Reads as served-reads
 
+cast-a : tie.Need-cast-a
+cast-a c = search needs
+
 sub-find-asked : tie.Need-sub-find-asked
 sub-find-asked c = search needs
 
@@ -46,6 +49,9 @@ served-requires c κs = search needs
 
 enum-told : tie.Need-enum-told
 enum-told c = search needs
+
+cast-f : tie.Need-cast-f
+cast-f c = search needs
 
 sub-is-full : tie.Need-sub-is-full
 sub-is-full c = search needs
@@ -76,11 +82,11 @@ same-length c = search needs
 
 returns : tie.Need-returns
 returns c =
-    let z = c .before .before .before .before .before .before .before .before .before .before .before .before .before in
+    let z = c .before .before .before .before .before .before .before .before .before .before .before .before .before .before .before in
     let a = z .args in
-    let bytes : Bytes (a .t .now) = λ j. omega (arith, c .before .before .before .before .before .before .before .before .before .before .before .before .slice-known .given j) in
-    let w = rw (tail-is (a .t .now) (z .pre .1 .2)) at (c .before .before .before .before .before .before .before .before .find-asked .ensures) in
-    let f = nothing-is (drop (base (layoutOf (length (a .t .now)))) (a .t .now)) (a .l .n) _ (sym w ∙ c .before .before .before .before .before .before .enum-told .given .1) in
+    let bytes : Bytes (a .t .now) = λ j. omega (arith, c .before .before .before .before .before .before .before .before .before .before .before .before .before .before .slice-known .given j) in
+    let w = rw (tail-is (a .t .now) (z .pre .1 .2)) at (c .before .before .before .before .before .before .before .before .before .find-asked .ensures) in
+    let f = nothing-is (drop (base (layoutOf (length (a .t .now)))) (a .t .now)) (a .l .n) _ (sym w ∙ c .before .before .before .before .before .before .before .enum-told .given .1) in
     let v = rw (tail-is (a .t .now) (z .pre .1 .1), tail-is (a .t .now) (z .pre .1 .2)) at (c .before .before .is-full .ensures) in
     law.setup-full (a .t .now) bytes (z .pre .0) (a .l .n) (z .pre .2) (a .s) (a .r) (questionOf (a .d .now) (a .q)) (a .o) refl f (sym v ∙ c .before .if1 .taken) _ (c .served2 .ensures)
 
@@ -92,9 +98,9 @@ same-length-2 c = search needs
 
 returns-2 : tie.Need-returns-2
 returns-2 c =
-    let z = c .before .before .before .before .before .before .before .before .before .before .before .before .before in
+    let z = c .before .before .before .before .before .before .before .before .before .before .before .before .before .before in
     let a = z .args in
-    let bytes : Bytes (a .t .now) = λ j. omega (arith, c .before .before .before .before .before .before .before .before .before .before .before .before .slice-known .given j) in
+    let bytes : Bytes (a .t .now) = λ j. omega (arith, c .before .before .before .before .before .before .before .before .before .before .before .before .before .slice-known .given j) in
     let w = rw (tail-is (a .t .now) (z .pre .1 .2)) at (c .before .before .before .before .before .before .before .before .find-asked .ensures) in
     let f = found-is (drop (base (layoutOf (length (a .t .now)))) (a .t .now)) (a .l .n) _ _ _ (sym w ∙ c .before .before .before .before .before .before .e .given .1) in
     law.setup-found (a .t .now) bytes (z .pre .0) (a .l .n) (z .pre .2) (a .s) (a .r) (questionOf (a .d .now) (a .q)) (a .o) (f .0) (f .1) _ (f .2) (c .before .before .running-count .ensures) _ (c .before .life-left .ensures) _ (c .served .ensures)
@@ -104,11 +110,11 @@ same-length-3 c = search needs
 
 returns-3 : tie.Need-returns-3
 returns-3 c =
-    let z = c .before .before .before .before .before .before .before .before .before .before .before .before .before .before .before .before in
+    let z = c .before .before .before .before .before .before .before .before .before .before .before .before .before .before .before .before .before .before in
     let a = z .args in
-    let bytes : Bytes (a .t .now) = λ j. omega (arith, c .before .before .before .before .before .before .before .before .before .before .before .before .before .before .before .slice-known .given j) in
-    let w = rw (tail-is (a .t .now) (z .pre .1 .2)) at (c .before .before .before .before .before .before .before .before .before .before .before .find-asked .ensures) in
-    let f = nothing-is (drop (base (layoutOf (length (a .t .now)))) (a .t .now)) (a .l .n) _ (sym w ∙ c .before .before .before .before .before .before .before .before .before .enum-told .given .1) in
+    let bytes : Bytes (a .t .now) = λ j. omega (arith, c .before .before .before .before .before .before .before .before .before .before .before .before .before .before .before .before .before .slice-known .given j) in
+    let w = rw (tail-is (a .t .now) (z .pre .1 .2)) at (c .before .before .before .before .before .before .before .before .before .before .before .before .find-asked .ensures) in
+    let f = nothing-is (drop (base (layoutOf (length (a .t .now)))) (a .t .now)) (a .l .n) _ (sym w ∙ c .before .before .before .before .before .before .before .before .before .before .enum-told .given .1) in
     let v = rw (tail-is (a .t .now) (z .pre .1 .1), tail-is (a .t .now) (z .pre .1 .2)) at (c .before .before .before .before .before .is-full .ensures) in
     law.setup-grant (a .t .now) bytes (z .pre .0) (a .l .n) (z .pre .2) (a .s) (a .r) (questionOf (a .d .now) (a .q)) (a .o) refl f (sym v ∙ c .before .before .before .before .if1 .left) _ _ (c .before .before .grant .ensures)
 
@@ -116,6 +122,7 @@ pub serve-setup-spec : {M : Type 1} → statement M
 serve-setup-spec =
     tie.close
     (tie.spec
+    cast-a
     sub-find-asked
     part-find-asked-start
     part-find-asked-end
@@ -125,6 +132,7 @@ serve-setup-spec =
     life-left-requires
     served-requires
     enum-told
+    cast-f
     sub-is-full
     part-is-full-start
     part-is-full-end

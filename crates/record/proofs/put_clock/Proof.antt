@@ -21,6 +21,9 @@ put-place-requires c κs =
     let same = ap placeBytes (z .pre .0 .0) in
     (omega (arith, z .pre, same), z .pre .2)
 
+cast-put32 : tie.Need-cast-put32
+cast-put32 c = search needs
+
 sub-put32 : tie.Need-sub-put32
 sub-put32 c = search needs
 
@@ -45,4 +48,4 @@ returns c =
 
 pub put-clock-spec : {M : Type 1} → statement M
 put-clock-spec =
-    tie.close (tie.spec put-place-requires sub-put32 put32-requires same-length returns)
+    tie.close (tie.spec put-place-requires cast-put32 sub-put32 put32-requires same-length returns)

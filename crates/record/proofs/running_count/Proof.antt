@@ -10,6 +10,9 @@ use Rattle.record.proofs.running_count.Reads as reads
 use Rattle.record.proofs.running_count.Lts as lts
 use Rattle.octets.proofs.get32.Reads as get32-reads
 
+cast-get32 : tie.Need-cast-get32
+cast-get32 c = search needs
+
 sub-get32 : tie.Need-sub-get32
 sub-get32 c = search needs
 
@@ -22,4 +25,4 @@ returns c =
     c .get32 .ensures ∙ ap (λ (k : ℕ). bigEndian (a .t .now) k 4) (omega (arith, c .before .before .before .pre .0))
 
 pub running-count-spec : {M : Type 1} → statement M
-running-count-spec = tie.close (tie.spec sub-get32 get32-requires returns)
+running-count-spec = tie.close (tie.spec cast-get32 sub-get32 get32-requires returns)

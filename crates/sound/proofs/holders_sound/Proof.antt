@@ -59,6 +59,14 @@ array-read-earlier c =
 earlier-requires : tie.Need-earlier-requires Inv-loop μ-loop
 earlier-requires c κs = search needs
 
+cast-first : tie.Need-cast-first Inv-loop μ-loop
+cast-first c = search needs
+
+array-write-first : tie.Need-array-write-first Inv-loop μ-loop
+array-write-first c =
+    let l = c .before .before .before .before .before .before .loop in
+    omega (arith, c .before .shared-slice-known4 .given (320 * l .i + 16))
+
 holder-sound-requires : tie.Need-holder-sound-requires Inv-loop μ-loop
 unfolding holdingAt readEntry
 holder-sound-requires c κs =
@@ -73,14 +81,6 @@ returns c =
     let a = c .before .before .before .before .before .before .before .before .before .before .before .args in
     let u = sym (c .before .before .before .before .before .in-use .ensures) ∙ c .before .before .before .before .if1 .taken in
     sym (holder-no (a .slots .now) (l .i) u (linesTo (a .lines .now) (a .m)) (a .n) (omega arith) (sym (c .before .holder-sound .ensures) ∙ not-true _ (c .if2 .taken)))
-
-cast-first : tie.Need-cast-first Inv-loop μ-loop
-cast-first c = search needs
-
-array-write-first : tie.Need-array-write-first Inv-loop μ-loop
-array-write-first c =
-    let l = c .before .before .before .before .before .before .before .before .loop in
-    omega (arith, c .before .before .before .shared-slice-known4 .given (320 * l .i + 16))
 
 add-i : tie.Need-add-i Inv-loop μ-loop
 add-i c = search needs
@@ -126,10 +126,10 @@ holders-sound-spec =
     cast-y
     array-read-earlier
     earlier-requires
-    holder-sound-requires
-    returns
     cast-first
     array-write-first
+    holder-sound-requires
+    returns
     add-i
     loop-less
     loop-again

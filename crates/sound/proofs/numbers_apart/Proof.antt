@@ -58,6 +58,14 @@ array-read-earlier c =
 earlier-requires : tie.Need-earlier-requires Inv-loop μ-loop
 earlier-requires c κs = search needs
 
+cast-first : tie.Need-cast-first Inv-loop μ-loop
+cast-first c = search needs
+
+array-write-first : tie.Need-array-write-first Inv-loop μ-loop
+array-write-first c =
+    let l = c .before .before .before .before .before .before .loop in
+    omega (arith, c .before .shared-slice-known3 .given (320 * l .i + 26))
+
 number-apart-requires : tie.Need-number-apart-requires Inv-loop μ-loop
 unfolding holdingAt readEntry
 number-apart-requires c κs =
@@ -73,14 +81,6 @@ returns c =
     let a = c .before .before .before .before .before .before .before .before .before .before .args in
     let u = sym (c .before .before .before .before .before .in-use .ensures) ∙ c .before .before .before .before .if1 .taken in
     sym (numbers-no (a .slots .now) (l .i) u _ refl (a .n) (omega arith) (sym (c .before .number-apart .ensures) ∙ not-true _ (c .if2 .taken)))
-
-cast-first : tie.Need-cast-first Inv-loop μ-loop
-cast-first c = search needs
-
-array-write-first : tie.Need-array-write-first Inv-loop μ-loop
-array-write-first c =
-    let l = c .before .before .before .before .before .before .before .before .loop in
-    omega (arith, c .before .before .before .shared-slice-known3 .given (320 * l .i + 26))
 
 add-i : tie.Need-add-i Inv-loop μ-loop
 add-i c = search needs
@@ -125,10 +125,10 @@ numbers-apart-spec =
     cast-x
     array-read-earlier
     earlier-requires
-    number-apart-requires
-    returns
     cast-first
     array-write-first
+    number-apart-requires
+    returns
     add-i
     loop-less
     loop-again

@@ -20,6 +20,12 @@ use Rattle.table.proofs.clear_lines.Reads as clear-lines-reads
 use Rattle.table.proofs.clear_slots.Reads as clear-slots-reads
 use Rattle.record.proofs.put_clock.Reads as put-clock-reads
 
+cast-a : tie.Need-cast-a
+cast-a c = search needs
+
+cast-z : tie.Need-cast-z
+cast-z c = search needs
+
 clock-kind-requires : tie.Need-clock-kind-requires
 clock-kind-requires c κs = search needs
 
@@ -28,39 +34,39 @@ put8-requires c κs = search needs
 
 put-clock-requires : tie.Need-put-clock-requires
 put-clock-requires c κs =
-    let z = c .before .before .before .before .before .before .before .before in
+    let z = c .before .before .before .before .before .before .before .before .before .before in
     let k = c .before .before .before .put8 .kept .0 in
     let same = ap placeBytes (z .pre .0 .0) in
     (subst (λ (n : ℕ). LayoutFor (z .args .l) n) (sym k) (z .pre .0), omega (arith, z .pre, k), z .pre .3)
 
 copy-requires : tie.Need-copy-requires
 copy-requires c κs =
-    let z = c .before .before .before .before .before .before .before .before .before .before .before .before in
+    let z = c .before .before .before .before .before .before .before .before .before .before .before .before .before .before in
     let g = given-roster (z .args .l .n) (z .args .roster .now) (z .pre .2) in
     let same = ap placeBytes (z .pre .0 .0) in
     (omega (arith, z, g .whole, g .few), omega (arith, z, c, g .whole, g .few))
 
 sub-clear-lines : tie.Need-sub-clear-lines
-sub-clear-lines c = let z = c .before .before .before .before .before .before .before .before .before .before .before .before .before .before .before in let same = ap placeBytes (z .pre .0 .0) in omega (arith, z, c)
+sub-clear-lines c = let z = c .before .before .before .before .before .before .before .before .before .before .before .before .before .before .before .before .before in let same = ap placeBytes (z .pre .0 .0) in omega (arith, z, c)
 
 part-clear-lines-start : tie.Need-part-clear-lines-start
-part-clear-lines-start c = let z = c .before .before .before .before .before .before .before .before .before .before .before .before .before .before .before in let same = ap placeBytes (z .pre .0 .0) in omega (arith, z, c)
+part-clear-lines-start c = let z = c .before .before .before .before .before .before .before .before .before .before .before .before .before .before .before .before .before in let same = ap placeBytes (z .pre .0 .0) in omega (arith, z, c)
 
 part-clear-lines-end : tie.Need-part-clear-lines-end
 part-clear-lines-end c = search needs
 
 clear-lines-requires : tie.Need-clear-lines-requires
 clear-lines-requires c κs =
-    let z = c .before .before .before .before .before .before .before .before .before .before .before .before .before .before .before .before in
+    let z = c .before .before .before .before .before .before .before .before .before .before .before .before .before .before .before .before .before .before in
     let g = given-roster (z .args .l .n) (z .args .roster .now) (z .pre .2) in
     let same = ap placeBytes (z .pre .0 .0) in
     (omega (arith, g .few), omega (arith, z, c, g .few))
 
 sub-clear-slots : tie.Need-sub-clear-slots
-sub-clear-slots c = let z = c .before .before .before .before .before .before .before .before .before .before .before .before .before .before .before .before .before .before .before in let same = ap placeBytes (z .pre .0 .0) in omega (arith, z, c)
+sub-clear-slots c = let z = c .before .before .before .before .before .before .before .before .before .before .before .before .before .before .before .before .before .before .before .before .before in let same = ap placeBytes (z .pre .0 .0) in omega (arith, z, c)
 
 part-clear-slots-start : tie.Need-part-clear-slots-start
-part-clear-slots-start c = let z = c .before .before .before .before .before .before .before .before .before .before .before .before .before .before .before .before .before .before .before in let same = ap placeBytes (z .pre .0 .0) in omega (arith, z, c)
+part-clear-slots-start c = let z = c .before .before .before .before .before .before .before .before .before .before .before .before .before .before .before .before .before .before .before .before .before in let same = ap placeBytes (z .pre .0 .0) in omega (arith, z, c)
 
 part-clear-slots-end : tie.Need-part-clear-slots-end
 part-clear-slots-end c = search needs
@@ -73,9 +79,9 @@ same-length c = search needs
 
 returns : tie.Need-returns
 returns c =
-    let z = c .before .before .before .before .before .before .before .before .before .before .before .before .before .before .before .before .before .before .before .before .before .before .before in
+    let z = c .before .before .before .before .before .before .before .before .before .before .before .before .before .before .before .before .before .before .before .before .before .before .before .before .before in
     let a = z .args in
-    let bytes : Bytes (a .roster .now) = λ j. omega (arith, c .before .before .before .before .before .before .before .before .before .before .before .before .before .before .before .before .before .before .before .before .before .shared-slice-known .given j) in
+    let bytes : Bytes (a .roster .now) = λ j. omega (arith, c .before .before .before .before .before .before .before .before .before .before .before .before .before .before .before .before .before .before .before .before .before .before .before .shared-slice-known .given j) in
     let e = sym (z .pre .0 .0) in
     let lines = z .pre .0 .1 ∙ ap linesAt e in
     let slots = z .pre .0 .2 ∙ ap base e in
@@ -86,6 +92,8 @@ pub make-fresh-spec : {M : Type 1} → statement M
 make-fresh-spec =
     tie.close
     (tie.spec
+    cast-a
+    cast-z
     clock-kind-requires
     put8-requires
     put-clock-requires

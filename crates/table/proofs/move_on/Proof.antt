@@ -99,40 +99,43 @@ returns c =
     sweep.stays (z .args .t .now) (bytes n) (z .pre .0) (clockOf (d .advanced .result)) (place-fits d) (running-fits d) _ (by-layout d _ (c .before .before .before .before .before .put-clock .ensures)) (z .args .place) (moved-to d)
     (rw (c .if1 .taken, r) (z .pre .4))
 
+cast-a : tie.Need-cast-a
+cast-a c = search needs
+
 sub-free-run-out : tie.Need-sub-free-run-out
-sub-free-run-out c = let l = sized (c .before .before .before .before .before .before .before .before .before .before) in omega (arith, c .before .before .before .before .before .before .before .before .before .before .before .pre, c .before .before .before .before .before .put-clock .kept)
+sub-free-run-out c = let l = sized (c .before .before .before .before .before .before .before .before .before .before .before) in omega (arith, c .before .before .before .before .before .before .before .before .before .before .before .before .pre, c .before .before .before .before .before .before .put-clock .kept)
 
 part-free-run-out-start : tie.Need-part-free-run-out-start
-part-free-run-out-start c = let l = sized (c .before .before .before .before .before .before .before .before .before .before) in omega (arith, c .before .before .before .before .before .before .before .before .before .before .before .pre, c .before .before .before .before .before .put-clock .kept)
+part-free-run-out-start c = let l = sized (c .before .before .before .before .before .before .before .before .before .before .before) in omega (arith, c .before .before .before .before .before .before .before .before .before .before .before .before .pre, c .before .before .before .before .before .before .put-clock .kept)
 
 part-free-run-out-end : tie.Need-part-free-run-out-end
 part-free-run-out-end c = search needs
 
 free-run-out-requires : tie.Need-free-run-out-requires
 free-run-out-requires c κs =
-    let d = c .before .before .before .before .before .before .before .before in
-    let n = c .before .before .before .before .before .before .before .before .before .before .before in
+    let d = c .before .before .before .before .before .before .before .before .before in
+    let n = c .before .before .before .before .before .before .before .before .before .before .before .before in
     let z = n .before in
-    let w = c .before .before .before .before .before .before .put-clock in
+    let w = c .before .before .before .before .before .before .before .put-clock in
     let l = sized n in
     let f = sweep.clock-formed (z .args .t .now) (bytes n) (z .pre .0) (clockOf (d .advanced .result)) (place-fits d) (running-fits d) _ (by-layout d _ (w .ensures)) in
-    (omega (arith, z .pre, w .kept), law.lent-formed f (λ j. omega (arith, c .before .before .before .before .slice-known2 .given j)) (z .args .l .n) (rw (w .kept .0) l) (rw (w .kept .0) (z .pre .1 .2)))
+    (omega (arith, z .pre, w .kept), law.lent-formed f (λ j. omega (arith, c .before .before .before .before .before .slice-known2 .given j)) (z .args .l .n) (rw (w .kept .0) l) (rw (w .kept .0) (z .pre .1 .2)))
 
 same-length-2 : tie.Need-same-length-2
 same-length-2 c = search needs
 
 returns-2 : tie.Need-returns-2
 returns-2 c =
-    let d = c .before .before .before .before .before .before .before .before .before .before .before in
-    let n = c .before .before .before .before .before .before .before .before .before .before .before .before .before .before in
+    let d = c .before .before .before .before .before .before .before .before .before .before .before .before in
+    let n = c .before .before .before .before .before .before .before .before .before .before .before .before .before .before .before in
     let z = n .before in
-    let w = c .before .before .before .before .before .before .before .before .before .put-clock in
+    let w = c .before .before .before .before .before .before .before .before .before .before .put-clock in
     let t = z .args .t .now in
     let e = by-layout d _ (w .ensures) in
     let f = sweep.clock-formed t (bytes n) (z .pre .0) (clockOf (d .advanced .result)) (place-fits d) (running-fits d) _ e in
     let r = sweep.clock-running t (bytes n) (z .pre .0) (clockOf (d .advanced .result)) (place-fits d) (running-fits d) _ e in
     sweep.moved t (bytes n) (z .pre .0) (clockOf (d .advanced .result)) (place-fits d) (running-fits d) _ e (z .args .place) (moved-to d) _ _
-    (sweep.table-swept _ (λ j. omega (arith, c .before .before .before .before .before .before .before .slice-known2 .given j)) f (z .args .l .n) (d .advanced .result .running) (rw (w .kept .0) (sized n)) r _ _
+    (sweep.table-swept _ (λ j. omega (arith, c .before .before .before .before .before .before .before .before .slice-known2 .given j)) f (z .args .l .n) (d .advanced .result .running) (rw (w .kept .0) (sized n)) r _ _
     (sweep.lent-swept _ (z .args .l .n) (d .advanced .result .running)
     (subst (λ (m : ℕ). z .args .l .«slots_at» ≡ base (layoutOf m)) (sym (w .kept .0)) (z .pre .1 .2)) (c .before .before .free-run-out .ensures)))
 
@@ -145,6 +148,7 @@ move-on-spec =
     put-clock-requires
     same-length
     returns
+    cast-a
     sub-free-run-out
     part-free-run-out-start
     part-free-run-out-end
