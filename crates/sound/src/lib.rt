@@ -203,18 +203,18 @@ fn address_beyond_share(lines: &[u8], m: usize, k: usize, hi: u64, lo: u64) -> u
     beyond_share(0, roster::UNLISTED_LIMIT, k)
 }
 
-// The same of the entry at c, with those below slot i; 2 also where one of them has its number, or its address and question: number and holder are looked at in one walk.
-fn entry_beyond_share(lines: &[u8], slots: &[u8], i: usize, c: usize, m: usize) -> usize
-    requires { ⌜ (i ≤ 64) × (m ≤ 16) × (19 * m ≤ length (now lines)) × (320 * i ≤ length (now slots)) × (c + 320 ≤ length (now slots)) ⌝ }
-    ensures { λ r. ⌜ r ≡ entryBeyondShare (now (slots .entry)) (linesTo (now (lines .entry)) m) i (holdingAt 0 (now (slots .entry)) c) ⌝ }
+// The same of the entry of slot i, with those below it; 2 also where one of them has its number, or its address and question: number and holder are looked at in one walk.
+fn entry_beyond_share(lines: &[u8], slots: &[u8], i: usize, m: usize) -> usize
+    requires { ⌜ (i < 64) × (m ≤ 16) × (19 * m ≤ length (now lines)) × (320 * (i + 1) ≤ length (now slots)) ⌝ }
+    ensures { λ r. ⌜ r ≡ entryBeyondShare (now (slots .entry)) (linesTo (now (lines .entry)) m) i (holdingAt 0 (now (slots .entry)) (320 * i)) ⌝ }
 {
+    let c = layout::SLOT * i;
     let number = record::number_at(slots, c);
     let hi = octets::get64(slots, c + layout::ADDRESS_AT);
     let lo = octets::get64(slots, c + layout::LOW_AT);
     let mut k: usize = 0;
-    let mut j: usize = 0;
-    while j < i {
-        let a = layout::SLOT * j;
+    let mut a: usize = 0;
+    while a < c {
         if record::has_number(slots, a, number) {
             return 2;
         }
@@ -224,7 +224,7 @@ fn entry_beyond_share(lines: &[u8], slots: &[u8], i: usize, c: usize, m: usize) 
             }
             k += 1;
         }
-        j += 1;
+        a += layout::SLOT;
     }
     address_beyond_share(lines, m, k, hi, lo)
 }
@@ -237,9 +237,8 @@ fn few_sound(lines: &[u8], slots: &[u8], n: usize, m: usize, shares: usize) -> b
     let mut k = shares;
     let mut i: usize = 0;
     while i < n {
-        let a = layout::SLOT * i;
-        if record::in_use(slots[a]) {
-            let x = entry_beyond_share(lines, slots, i, a, m);
+        if record::in_use(slots[layout::SLOT * i]) {
+            let x = entry_beyond_share(lines, slots, i, m);
             if x > 1 {
                 return false;
             }

@@ -35,8 +35,8 @@ loop-holds c =
     let z = c .before .before in
     (search needs, search needs, rw held-none, rw held-none, z .pre .5 ∙ reserve-start 0 (z .args .slots .now) (linesTo (z .args .lines .now) (z .args .m)))
 
-mul-a : tie.Need-mul-a Inv-loop μ-loop
-mul-a c = search needs
+mul-in-use : tie.Need-mul-in-use Inv-loop μ-loop
+mul-in-use c = search needs
 
 shared-slice-read-in-use : tie.Need-shared-slice-read-in-use Inv-loop μ-loop
 shared-slice-read-in-use c = search needs
@@ -94,7 +94,7 @@ few-sound-spec =
     Inv-loop
     μ-loop
     loop-holds
-    mul-a
+    mul-in-use
     shared-slice-read-in-use
     in-use-requires
     entry-beyond-share-requires
