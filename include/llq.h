@@ -38,7 +38,7 @@ extern "C" {
 enum llq_number {
     LLQ_DONE = 0,
     LLQ_TABLE = 1,     /* the table is unsound; making: its length is neither an LLQ_TABLE_SIZE nor an LLQ_TABLE_SIZE_13 of 1 to 64 */
-    LLQ_READING = 2,   /* week over 1023, or over 8191 on a table of LLQ_TABLE_SIZE_13; second over 604799 */
+    LLQ_READING = 2,   /* week over 1023 on a table of LLQ_TABLE_SIZE, over 8191 on one of LLQ_TABLE_SIZE_13; second over 604799 */
     LLQ_SIZE = 3,      /* the datagram has under 12 or over 1472 bytes */
     LLQ_HEADER = 4,    /* QR, OPCODE or TC not 0; QDCOUNT not 1 to 8; ANCOUNT or NSCOUNT not 0; ARCOUNT not 1 */
     LLQ_QUESTION = 5,  /* a question runs past the end, has a label byte of 64 or more, or a name over 255 bytes */

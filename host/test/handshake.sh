@@ -48,14 +48,8 @@ for pair in '064 096' '091 123' '193 225'; do # @ and `, [ and {, 0xC1 and 0xE1
     is "the end of byte $2" "$(llq 127.0.0.2 18503 "\\$2.example" 2 $number 0)" "0 $number 0"
 done
 
-# ---- a chatty client on many ports is held to its limit, and the listed address still gets its share
-for i in 1 2 3 4; do granted "chatty setup $i" 127.0.0.3 1851$i chatty.example 3600; done
-is 'chatty setup 5: at its limit' "$(llq 127.0.0.3 18515 chatty.example 1 0 3600)" '1 0 60'
-is 'another address: every free slot is reserved' "$(llq 127.0.0.4 18521 other.example 1 0 3600)" '1 0 60'
-since=$EPOCHSECONDS
-established 'the listed address' 127.0.0.5 18531 sign.example 3600
-sign=$number
-granted 'its second' 127.0.0.5 18532 sign.example 3600
+# ---- a chatty client
+full
 
 # ---- kill -9 and restart: entries and their remaining life are kept
 before=$(entries)

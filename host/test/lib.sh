@@ -176,6 +176,19 @@ established() {
     is "$1: response" "${2:-none} ${3:-none}" "0 $number"
 }
 
+# full: of 6 slots with 2 kept for 127.0.0.5, a chatty client on many ports is held to its limit, another address is told that they are full,
+# and the listed one still gets its share; the number of its first entry in $sign, when it was asked for in $since
+full() {
+    local i
+    for i in 1 2 3 4; do granted "chatty setup $i" 127.0.0.3 1851$i chatty.example 3600; done
+    is 'chatty setup 5: at its limit' "$(llq 127.0.0.3 18515 chatty.example 1 0 3600)" '1 0 60'
+    is 'another address: every free slot is reserved' "$(llq 127.0.0.4 18521 other.example 1 0 3600)" '1 0 60'
+    since=$EPOCHSECONDS
+    established 'the listed address' 127.0.0.5 18531 sign.example 3600
+    sign=$number
+    granted 'its second' 127.0.0.5 18532 sign.example 3600
+}
+
 # message FILE NAMES OPTION..: a query as bytes; a question of type PTR for each name, an LLQ option for each of the options (hexadecimal)
 message() {
     local file=$1 name label one questions= options=
@@ -212,7 +225,7 @@ bytes() { printf "$(sed 's/../\\x&/g' <<<"$2")" | dd of="${3:-$table}" bs=1 seek
 # ---- its clock
 
 # weeks_of BITS: the weeks of the table under test; $cycle is their seconds, $place_size the bytes of a place
-weeks_of() { cycle=$((604800 << $1)) place_size=$(($1 == 13 ? 8 : 4)); }
+weeks_of() { weeks=$1 cycle=$((604800 << $1)) place_size=$(($1 == 13 ? 8 : 4)); }
 weeks_of 10
 # gps TIME: seconds of the cycle; place: where the saved table stands in it
 gps() { echo $((($1 - 315964800 + 18) % cycle)); }
@@ -253,4 +266,81 @@ told() {
     local again=$(llq 127.0.0.2 18501 a.example 1 0 60 | cut -d ' ' -f 3)
     set -- $(llq 127.0.0.2 18501 a.example 1 $sign "${again:-0}")
     [ "${1:-4}" = 0 ] && [ $((again - $3)) -le 3 ] && echo "$3" || echo "${again:-none}, then $*"
+}
+
+# half_ahead: a table just under half a cycle ahead, saved a while ago; $work/copy has its entry, of 7,200 s and number $sign. With that while
+# the system's clock may be more than half a cycle behind, a step ahead to the library: then leases go on from the table's clock, else from
+# the system's.
+half_ahead() {
+    local ago what behind
+    for ago in 2000 5000; do
+        what="half a cycle, $ago s ago"
+        cp -p "$work/copy" "$table"
+        began=$EPOCHSECONDS
+        put $(($(gps $began) + cycle / 2 - 3000)) $((began - ago))
+        saved=$(stamp)
+        lives "$what: shown" "$(left 18501)" $((7200 - ago)) $began
+        start --state "$table"
+        behind=$(sed -n "s/^llqd: the system clock is \([0-9]*\) s behind the table's; leases go on from the table\$/\1/p" "$log")
+        between "$what" "$behind" $((cycle / 2 - 3000 - (EPOCHSECONDS - began) - 1)) $((cycle / 2 - 3000))
+        lives "$what: told" "$(told)" $((7200 - ago)) $began
+        saved_again "$what"
+        [ $ago = 5000 ] || went_back "$what"
+        end 9
+        clock +20
+        start --state "$table"
+        lives "$what, killed: told" "$(told)" $((7180 - ago)) $began
+        go_on "$what, killed"
+        end TERM
+        clock +0
+    done
+}
+
+# across DATE WEEK: the second before which this week ends. Run across it, started again across it, and back across it
+across() {
+    local week=$(date -d "$1" +%s) roll
+    rm -f "$table"
+    roll=$((week - 8 - EPOCHSECONDS))
+    clock $roll
+    start --weeks $weeks --state "$table"
+    since=$EPOCHSECONDS
+    established "before $1" 127.0.0.2 18501 a.example 3600
+    sign=$number
+    is "before $1: its week" $(($(place) / 604800)) $2
+    [ $((EPOCHSECONDS + roll)) -lt $week ] || fail "the machine is too slow: $1 was over before the setup"
+    cp -p "$table" "$work/copy"
+    before=$(entries)
+    over() { [ $((EPOCHSECONDS + roll)) -gt $week ]; }
+    await 20 over || fail "no $1"
+    lives "across $1: told" "$(told)" 3600 $since
+    is "across $1: entries" "$(entries)" "$before"
+    lives "across $1: shown" "$(left 18501)" 3600 $since
+    granted "after $1" 127.0.0.3 18502 b.example 3600
+    is "after $1: its week" $(($(place) / 604800)) $((($2 + 1) % (cycle / 604800)))
+    is "across $1: no step" "$(lines 'llqd: .*(clock|tick|passed).*')" 0
+    end TERM
+    later $roll
+    start --state "$table"
+    logged "started again after $1" "llqd: 16 slots, 2 entries taken up from $table"
+    lives "started again after $1: told" "$(told)" 3600 $since
+    end TERM
+    cp -p "$work/copy" "$table"
+    later $roll
+    clock $((roll + 40))
+    lives "started again across $1: shown" "$(left 18501)" 3560 $since
+    start --state "$table"
+    logged "started again across $1" "llqd: 16 slots, 1 entries taken up from $table"
+    lives "started again across $1: told" "$(told)" 3560 $since
+    end TERM
+    cp -p "$work/copy" "$table"
+    put "$(gps $((week + 40)))" $((week + 40))
+    roll=$((week - 120 - EPOCHSECONDS))
+    clock $roll
+    saved=$(stamp) began=$EPOCHSECONDS
+    start --state "$table"
+    logged "back across $1" "llqd: the system clock is 1[56][0-9] s behind the table's; leases go on from the table"
+    went_back "back across $1" $roll
+    lives "back across $1: told" "$(told)" 3600 $began
+    go_on "back across $1"
+    end TERM
 }

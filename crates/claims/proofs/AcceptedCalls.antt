@@ -71,7 +71,6 @@ make-accepted c size e =
 pub record QueryAccepted (w : Weeks) (c : ServeCall) : Type 0 where
   pub reading : validReading w (c .week) (c .second) ≡ true
   pub sizeMin : 12 ≤ length (c .datagram)
-  pub sizeMax : length (c .datagram) ≤ 1472
   pub header : goodHeader (c .datagram) ≡ true
   pub questions : goodQuestions (c .datagram) (qdcount (c .datagram)) ≡ true
   pub opt : goodOpt (c .datagram) (questionsEnd (c .datagram)) ≡ true
@@ -87,7 +86,6 @@ serve-accepted c b e =
     record {
       reading = not-false (validReading (layoutOf (length b) .weeks) (c .week) (c .second)) (at 1 (lit< tt));
       sizeMin = ltb-false (length d) 12 (or-left (ltb (length d) 12) (ltb 1472 (length d)) (at 2 (lit< tt)));
-      sizeMax = ltb-false 1472 (length d) (or-right (ltb (length d) 12) (ltb 1472 (length d)) (at 2 (lit< tt)));
       header = not-false (goodHeader d) (at 3 (lit< tt));
       questions = not-false (goodQuestions d (qdcount d)) (at 4 (lit< tt));
       opt = not-false (goodOpt d (questionsEnd d)) (at 5 (lit< tt));

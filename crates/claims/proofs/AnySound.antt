@@ -15,7 +15,6 @@ use Rattle.model.proofs.TableLaws.{length-table}
 use Rattle.claims.specs.Tally.{Tally}
 use Rattle.claims.specs.Demand3.{Agrees}
 use Rattle.claims.specs.AnySound.{AnySound, tallyOf}
-use Rattle.claims.proofs.Relation.{Related}
 use Rattle.claims.proofs.Demand3.Permutations.{perm-alike}
 use Rattle.claims.proofs.Demand3.CallSteps.{Invariant}
 use Rattle.claims.proofs.Demand3.{along}

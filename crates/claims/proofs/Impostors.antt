@@ -412,7 +412,7 @@ stands-still : Resumes (moveBack stands) → ⊥
 unfolding all-definitions
 stands-still r =
     let z : _≡_ {A = ℕ} 7 17 =
-    ap (λ (c : Clock). c .running) (r .setBack (cycleOf tenBit) (record { place = 100; running = 7 }) 0 10 refl (lit< tt) (lit< tt) (lit< tt) (lit< tt) (omega arith) (omega arith)) in
+    ap (λ (c : Clock). c .running) (r .setBack (cycleOf tenBit) (record { place = 100; running = 7 }) 0 10 refl (lit< tt) (lit< tt) (lit< tt) (omega arith) (omega arith)) in
     absurd (omega arith)
 
 -- back by 60 seconds and on: the count is 7 still
@@ -420,7 +420,7 @@ keeps-little : Resumes (moveBack setTo) → ⊥
 unfolding all-definitions
 keeps-little r =
     let z : _≡_ {A = ℕ} 67 7 =
-    ap (λ (c : Clock). c .running) (r .wentBack (cycleOf tenBit) (record { place = 100; running = 7 }) 40 60 60 refl (lit< tt) (lit< tt) (lit< tt) (lit< tt) refl (omega arith) (omega arith) (omega arith)) in
+    ap (λ (c : Clock). c .running) (r .wentBack (cycleOf tenBit) (record { place = 100; running = 7 }) 40 60 60 refl (lit< tt) (lit< tt) (lit< tt) refl (omega arith) (omega arith) (omega arith)) in
     absurd (omega arith)
 
 -- the samples of 61 seconds back, and of 1
@@ -476,19 +476,17 @@ latin-sample r = never {b = true} refl (r .2 .2 .0)
 running-read : (b : List ℕ) (y : Tally) → Agrees b y → readTable b .clock .running ≡ y .running
 running-read b y g = ap (λ (t : Table). t .clock .running) (read-stored b (g .stored)) ∙ g .running
 
--- half a ten-bit cycle on, which is no step back around the thirteen-bit one: the tally counts it
-ten-bit-count : Demand3 tenBitCycle → ⊥
+-- half a ten-bit cycle on, which is no step back around the thirteen-bit one, the tally's count has gone on; 30 seconds less than a ten-bit cycle
+-- on, which is no small step back, its place is the new one
+ten-bit-apart : Demand3 tenBitCycle → _≡_ {A = ℕ} 0 309657600 × _≡_ {A = ℕ} 0 619315170
 unfolding all-definitions
-ten-bit-count d =
-    let z : _≡_ {A = ℕ} 0 309657600 = running-read _ _ (ticked-after tenBitCycle (wideBuffer 1) d 512 0 (lit< tt) (lit< tt) refl) in
-    absurd (omega arith)
+ten-bit-apart d = (
+  running-read _ _ (ticked-after tenBitCycle (wideBuffer 1) d 512 0 (lit< tt) (lit< tt) refl),
+  place-read _ _ (ticked-after tenBitCycle (wideBuffer 1) d 1023 604770 (lit< tt) (lit< tt) refl),
+)
 
--- 30 seconds less than a ten-bit cycle on, which is no small step back: the place is the new one
-ten-bit-stays : Demand3 tenBitCycle → ⊥
-unfolding all-definitions
-ten-bit-stays d =
-    let z : _≡_ {A = ℕ} 0 619315170 = place-read _ _ (ticked-after tenBitCycle (wideBuffer 1) d 1023 604770 (lit< tt) (lit< tt) refl) in
-    absurd (omega arith)
+ten-bit-cycle : Demand3 tenBitCycle → ⊥
+ten-bit-cycle d = let z = ten-bit-apart d .0 in absurd (omega arith)
 
 ten-bit-place : Ticking tenBitCycle → ⊥
 unfolding all-definitions
@@ -570,7 +568,7 @@ refuted =
       zUnfolded = z-unfolded;
       bracketFolded = bracket-folded;
       latinFolded = latin-folded;
-      tenBitCycle = (ten-bit-count, ten-bit-stays, ten-bit-place);
+      tenBitCycle = (ten-bit-cycle, ten-bit-place);
       signedStep = signed-step;
       takesWideWeek = takes-wide-week;
       makesTenBit = (makes-ten-bit, makes-ten-bit-pin);

@@ -1,19 +1,19 @@
 -- Numbers, parts and fields in lists of bytes, of the model's definitions. Assumes nothing.
-use Prim.Native.Nat.{ℕ, zero, suc, _+_, _-_, _*_, _/_, _%_, _^_, _≤_, _<_}
-use native.Mathlib.Nat.{add-zero, add-assoc, pow-succ', div-div-eq-div-mul, eq-or-lt-of-le}
+use Prim.Native.Nat.{ℕ, zero, suc, _+_, _-_, _/_, _%_, _^_, _≤_, _<_}
+use native.Mathlib.Nat.{add-zero, pow-succ', div-div-eq-div-mul, eq-or-lt-of-le}
 use native.Mathlib.Omega.{arith}
 use mathlib.Core.Path.{_≡_, refl, sym, ap, _∙_}
 use mathlib.Core.Bool.{true, false}
 use mathlib.Core.List.{List, [], _∷_, _++_}
 use mathlib.Core.Logic.{⊎-elim}
-use lib.ListN.{length, getD, take, drop, List·getD-append, length-append}
+use lib.ListN.{length, getD, take, drop, List·getD-append}
 use lib.Seq.{getD-at, getD-take, getD-drop, getD-append-add, length-take-le}
 use lib.Dec.{ltb}
 use borrow.Author.Tests.{ltb-true, ltb-false}
-use Rattle.model.specs.Numbers.{Bytes, bigEndian, bytesOf, part, splice, encode}
+use Rattle.model.specs.Numbers.{Bytes, bigEndian, bytesOf, splice, encode}
 use Rattle.model.proofs.Fields.{width}
 use Rattle.model.proofs.ListLaws.{test, getD-past}
-use Rattle.model.proofs.NumberLaws.{length-bytes, big-add, big-one, length-part, getD-part, length-splice, length-encode}
+use Rattle.model.proofs.NumberLaws.{length-bytes, big-add, length-part, getD-part, length-splice, length-encode}
 use Rattle.claims.specs.NumbersInBytes.{valueAt, Replaced, widthOf, NumbersInBytes}
 
 -- BYTES

@@ -1,24 +1,23 @@
 -- Claim 8 of the model's reader. Assumes nothing.
-use Prim.Native.Nat.{ℕ, zero, suc, _+_, _-_, _≤_, _<_}
+use Prim.Native.Nat.{ℕ, zero, suc, _+_, _-_, _<_}
 use native.Mathlib.Omega.{arith}
 use mathlib.Core.Path.{_≡_, refl, sym, ap, _∙_, subst}
-use mathlib.Core.Bool.{Bool, true, false, cond, _&&_}
+use mathlib.Core.Bool.{Bool, true, false, _&&_}
 use mathlib.Core.List.{List, [], _∷_, map}
-use mathlib.Core.Logic.{_⊎_, ⊎-elim, _≢_}
+use mathlib.Core.Logic.{_⊎_, ⊎-elim}
 use lib.ListN.{length, getD}
 use lib.Dec.{eqb, leb}
-use borrow.Author.Tests.{leb-true, leb-false, eqb-true, eqb-false, eq-eqb, ne-eqb, le-leb, lt-leb}
+use borrow.Author.Tests.{leb-true, leb-false, eqb-true, eqb-false, eq-eqb, lt-leb}
 use Rattle.model.specs.Lists.{keep, every}
 use Rattle.model.specs.Numbers.{bigEndian, part}
 use Rattle.model.specs.Names.{upper, fold}
-use Rattle.model.specs.Query.{EdnsOption, LlqOption, Question, goodOption, optionAt, optionEnd, optionsFill, optionsFrom, goodOpt, goodQuestion, goodQuestions, optData, llqOptions, llqOption, llqAt, qdcount, questionsEnd, questionStart, questionAt, question, nameAt, matched}
+use Rattle.model.specs.Query.{EdnsOption, goodOption, optionAt, optionEnd, optionsFill, optionsFrom, goodOpt, goodQuestion, goodQuestions, llqOptions, llqOption, llqAt, qdcount, questionsEnd, questionStart, questionAt, nameAt, matched}
 use Rattle.model.proofs.ListLaws.{one-of, test, never, and-left, and-right, and-both, length-map, getD-map, every-at, at-every}
 use Rattle.model.proofs.NumberLaws.{getD-part, length-part}
-use Rattle.model.proofs.NameLaws.{upper-is, fold-same, question-size, question-within}
+use Rattle.model.proofs.NameLaws.{upper-is, fold-same, question-within}
 use Rattle.model.proofs.QueryLaws.{good-at}
-use Rattle.claims.specs.Refusals.{twoBytes, NameEnds, Starts, QuestionFault, OptFault}
-use Rattle.claims.specs.Exactly.{Exactly}
-use Rattle.claims.specs.Reading.{Folded, QuestionRead, LlqPlaces, OptionRead, Matching, QueryRead, ReadsQueries}
+use Rattle.claims.specs.Refusals.{twoBytes}
+use Rattle.claims.specs.Reading.{Folded, QuestionRead, LlqPlaces, OptionRead, Matching, ReadsQueries}
 use Rattle.claims.proofs.Refusals.NameReading.{end-size}
 use Rattle.claims.proofs.Refusals.OptReading.{end-of}
 use Rattle.claims.proofs.Refusals.QuestionReading.{big-two, start-is, end-is, bad-questions}

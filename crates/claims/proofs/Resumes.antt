@@ -101,6 +101,6 @@ module _ (c : ℕ) (even : c / 2 + c / 2 ≡ c) where
 pub resumes : Resumes advance
 resumes =
     record {
-      setBack = λ c k p d even hk hr hp hd least most. set-back c even k p d hk hp hd least most;
-      wentBack = λ c k p d b even hk hr hp hd e least most enough. went-back c even k p d b hk hp hd e least most enough;
+      setBack = λ c k p d even hk hp hd least most. set-back c even k p d hk hp hd least most;
+      wentBack = λ c k p d b even hk hp hd e least most enough. went-back c even k p d b hk hp hd e least most enough;
     }

@@ -1,25 +1,24 @@
 -- The rules of a sound table, told line by line and slot by slot, are the model's. Assumes nothing.
-use Prim.Native.Nat.{ℕ, zero, suc, _+_, _-_, _≤_, _<_}
+use Prim.Native.Nat.{ℕ, suc, _+_, _-_, _≤_, _<_}
 use native.Mathlib.Omega.{arith}
 use mathlib.Core.Path.{_≡_, refl, sym, ap, _∙_}
 use mathlib.Core.Bool.{Bool, true, false, not, cond, _&&_}
 use mathlib.Core.List.{List, [], _∷_}
 use lib.ListN.{length, getD}
-use lib.Dec.{eqb, leb, ltb}
+use lib.Dec.{eqb, leb}
 use borrow.Author.Tests.{eqb-true, eqb-false, eq-eqb, ne-eqb, leb-true, le-leb, ltb-true, lt-ltb, not-true}
-use Rattle.model.specs.Lists.{bit, count, any}
+use Rattle.model.specs.Lists.{bit, count}
 use Rattle.model.specs.Clock.{Weeks, tenBit, thirteenBit, cycleOf, ageAt}
-use Rattle.model.specs.Names.{lowerName}
 use Rattle.model.specs.Table.{Line, Entry, Slot, free, held, Table}
-use Rattle.model.specs.Rules.{Holding, holding, holdings, entriesOf, heldBy, numbered, limitOf, reserve, shares}
+use Rattle.model.specs.Rules.{Holding, holding, holdings, entriesOf, heldBy, numbered, reserve, shares}
 use Rattle.model.specs.Sound.{validLine, nonZeroNumber, validLease, live, validName, sameQuestion, Sound}
 use Rattle.model.specs.Serve.{isFree, has}
 use Rattle.model.proofs.ListLaws.{never, and-left, and-right, and-both, every-at, at-every, every-none, none-every, every-not, one-place}
-use Rattle.model.proofs.HoldingLaws.{held-in, held-inj, count-entries, count-free, Holds, has-holds, holds-has, held-obeys}
+use Rattle.model.proofs.HoldingLaws.{held-in, count-entries, count-free, has-holds, holds-has, held-obeys}
 use Rattle.model.proofs.RoundTrip.{noLine}
-use Rattle.model.proofs.Facts.{Agree, agree, agreed}
-use Rattle.claims.specs.Tally.{lineOf}
-use Rattle.claims.specs.SoundRules.{LineRules, lineIn, sumOfShares, EntryRules, Agreeing, heldSlots, freeSlots, reservedSlots, InSlot, cycleWith, SoundRules, SoundExactly}
+use Rattle.model.proofs.Facts.{agree, agreed}
+use Rattle.claims.specs.Lengths.{cycleWith}
+use Rattle.claims.specs.SoundRules.{LineRules, lineIn, sumOfShares, EntryRules, heldSlots, freeSlots, reservedSlots, InSlot, SoundRules, SoundExactly}
 use Rattle.claims.proofs.Relation.TallyRules.{limit-of, short-of}
 use Rattle.claims.proofs.StoredNames.{stored-names}
 

@@ -9,7 +9,7 @@ use mathlib.Core.Logic.{⊎-elim, _≢_}
 use lib.ListN.{length, getD, drop, length-drop}
 use lib.Seq.{drop-cons}
 use lib.Dec.{eqb, leb, ltb}
-use borrow.Author.Tests.{eqb-true, eqb-false, eq-eqb, ne-eqb, le-leb, ltb-true, ltb-false, lt-ltb, not-true}
+use borrow.Author.Tests.{eqb-true, eqb-false, eq-eqb, le-leb, ltb-true, ltb-false, lt-ltb, not-true}
 use Rattle.model.specs.Names.{upper, nameSize, lowerName}
 use Rattle.model.specs.Query.{nameAt}
 use Rattle.model.proofs.ListLaws.{test, never, and-left, and-right, and-both, getD-past}

@@ -3,7 +3,7 @@ use Prim.Native.Nat.{ℕ, zero, suc, _+_, _-_, _*_, _^_, _≤_, _<_}
 use native.Mathlib.Nat.{add-zero, add-assoc}
 use native.Mathlib.Omega.{arith}
 use mathlib.Core.Path.{_≡_, refl, sym, ap, _∙_, subst}
-use mathlib.Core.Bool.{Bool, true, false}
+use mathlib.Core.Bool.{true, false}
 use mathlib.Core.List.{List, [], _∷_, _++_, append-assoc, append-nil}
 use mathlib.Core.Logic.{⊎-elim}
 use lib.ListN.{length, getD, take, drop, replicate, List·getD-append, length-append, getD-replicate}
@@ -13,9 +13,9 @@ use borrow.Author.Tests.{ltb-true, ltb-false}
 use Rattle.model.specs.Lists.{upTo, flat}
 use Rattle.model.specs.Numbers.{Bytes, bigEndian, bytesOf, part, encode}
 use Rattle.model.specs.Clock.{Weeks, tenBit, thirteenBit}
-use Rattle.model.specs.Table.{Line, Entry, Slot, free, held, Layout, Table, clockKind, placeBytes, runningAt, linesAt, base, lineAt, slotAt, sizeOf, entryFields, kindOf, clockBytes, lineBytes, unusedLine, slotBytes, rosterBytes, tableBytes, readLine, readEntry, readTable}
+use Rattle.model.specs.Table.{Line, Entry, Slot, free, held, Layout, Table, clockKind, placeBytes, runningAt, linesAt, base, lineAt, slotAt, sizeOf, entryFields, kindOf, clockBytes, lineBytes, unusedLine, slotBytes, rosterBytes, tableBytes, readLine, readEntry}
 use Rattle.model.specs.Sound.{FitsLine, FitsEntry, FitsSlot, Fits}
-use Rattle.model.proofs.ListLaws.{test, getD-past, getD-any, length-flat, length-upTo, getD-upTo}
+use Rattle.model.proofs.ListLaws.{test, length-flat, length-upTo}
 use Rattle.model.proofs.NumberLaws.{big-lt, bytes-big, big-ext, big-one, getD-part, length-encode, encode-first}
 use Rattle.model.proofs.SlotLaws.{length-line, length-unused, kind-lt, entry-back, line-back, field-behind}
 use Rattle.model.proofs.TableLaws.{flat-cut, length-front, length-roster, length-clock, bytes-table, fits-rows, length-table, clockFields, clock-starts}

@@ -434,7 +434,7 @@ pub record Refuted : Type 0 where
   pub bracketFolded : Demand3 bracketFolded → ⊥
   pub latinFolded : Demand3 latinFolded → ⊥
   -- by the count and, from 0 to 619,315,170, by the place
-  pub tenBitCycle : (Demand3 tenBitCycle → ⊥) × (Demand3 tenBitCycle → ⊥) × (Ticking tenBitCycle → ⊥)
+  pub tenBitCycle : (Demand3 tenBitCycle → ⊥) × (Ticking tenBitCycle → ⊥)
   pub signedStep : Demand3 signedStep → ⊥
   pub takesWideWeek : Refusals takesWideWeek → ⊥
   pub makesTenBit : (Demand3 makesTenBit → ⊥) × (Pinned makesTenBit → ⊥)

@@ -3,14 +3,20 @@
 use Prim.Native.Nat.{ℕ, _+_, _-_, _/_, _%_}
 use mathlib.Core.Bool.{Bool, cond}
 use lib.Dec.{eqb}
+use Rattle.model.specs.Clock.{Weeks, tenBit, thirteenBit}
 
 -- 317 + 320n is three less than a multiple of 320, and 313 + 320n is not
 abbrev pub isWide : ℕ → Bool
 isWide size = eqb ((size + 3) % 320) 0
 
--- the seconds of the clock's cycle, and the largest week
+-- the seconds of a clock's cycle, with weeks of ten bits and of thirteen
+abbrev pub cycleWith : Weeks → ℕ
+cycleWith tenBit = 619315200
+cycleWith thirteenBit = 4954521600
+
+-- those of a table so long, and the largest week
 abbrev pub cycleFor : ℕ → ℕ
-cycleFor size = cond (isWide size) 4954521600 619315200
+cycleFor size = cond (isWide size) (cycleWith thirteenBit) (cycleWith tenBit)
 
 abbrev pub lastWeek : ℕ → ℕ
 lastWeek size = cond (isWide size) 8191 1023

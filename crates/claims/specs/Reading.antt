@@ -1,6 +1,6 @@
 -- Claim 8: what a query holds, told by the datagram's bytes: QDCOUNT, where the questions end, question i, LLQ option i, the count and length
 -- test. Assumes nothing.
-use Prim.Native.Nat.{ℕ, _+_, _-_, _≤_, _<_}
+use Prim.Native.Nat.{ℕ, _+_, _≤_, _<_}
 use mathlib.Core.Path.{_≡_}
 use mathlib.Core.Bool.{true}
 use mathlib.Core.List.{List, [], _∷_}

@@ -14,10 +14,10 @@ later c place seconds = cond (ltb (place + seconds) c) (place + seconds) (place 
 -- THE CLAIM, of a clock k and readings at a place p and d seconds later, d under half a cycle
 pub record Resumes (move : ℕ → Clock → ℕ → Clock) : Type 0 where
   -- p is 61 seconds or more behind, up to half a cycle: all of d counts
-  pub setBack : (c : ℕ) (k : Clock) (p d : ℕ) → c / 2 + c / 2 ≡ c → k .place < c → k .running < 2 ^ 32 → p < c → d < c / 2
+  pub setBack : (c : ℕ) (k : Clock) (p d : ℕ) → c / 2 + c / 2 ≡ c → k .place < c → p < c → d < c / 2
       → 61 ≤ behind c (k .place) p → behind c (k .place) p ≤ c / 2
       → move c (move c k p) (later c p d) ≡ record { place = later c p d; running = (k .running + d) % 2 ^ 32 }
   -- p is b seconds behind, 1 to 60: of d all but b counts
-  pub wentBack : (c : ℕ) (k : Clock) (p d b : ℕ) → c / 2 + c / 2 ≡ c → k .place < c → k .running < 2 ^ 32 → p < c → d < c / 2
+  pub wentBack : (c : ℕ) (k : Clock) (p d b : ℕ) → c / 2 + c / 2 ≡ c → k .place < c → p < c → d < c / 2
       → behind c (k .place) p ≡ b → 1 ≤ b → b ≤ 60 → b ≤ d
       → move c (move c k p) (later c p d) ≡ record { place = later c p d; running = (k .running + (d - b)) % 2 ^ 32 }

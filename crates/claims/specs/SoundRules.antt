@@ -6,9 +6,9 @@ use mathlib.Core.List.{List, [], _∷_}
 use mathlib.Core.Logic.{_≢_}
 use lib.ListN.{length, getD}
 use lib.Dec.{eqb, ltb}
-use Rattle.model.specs.Clock.{Weeks, tenBit, thirteenBit}
 use Rattle.model.specs.Table.{Line, Entry, Slot, free, held, Table}
 use Rattle.model.specs.Sound.{Sound}
+use Rattle.claims.specs.Lengths.{cycleWith}
 use Rattle.claims.specs.Tally.{lineOf}
 use Rattle.claims.specs.Exactly.{Exactly}
 use Rattle.claims.specs.StoredNames.{StoredName}
@@ -65,11 +65,6 @@ reservedSlots (l ∷ ls) s = cond (ltb (heldSlots s (l .address)) (l .share)) (l
 -- slot j holds the entry
 abbrev pub InSlot : Table → ℕ → Entry → Type 0
 InSlot t j e = getD (t .slots) j free ≡ held e
-
--- the places of a clock's cycle, with weeks of ten bits and of thirteen
-abbrev pub cycleWith : Weeks → ℕ
-cycleWith tenBit = 619315200
-cycleWith thirteenBit = 4954521600
 
 pub record SoundRules (t : Table) : Type 0 where
   -- the last place is under 619,315,200, or with weeks of thirteen bits 4,954,521,600; 1 to 64 slots; 16 roster lines

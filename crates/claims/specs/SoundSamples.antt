@@ -1,11 +1,11 @@
 -- Sound and unsound tables at the ends of each rule, computed beside expected. Assumes nothing.
-use Prim.Native.Nat.{ℕ, _+_, _*_}
+use Prim.Native.Nat.{ℕ, _+_}
 use mathlib.Core.Path.{_≡_}
 use mathlib.Core.Bool.{Bool, true, false}
 use mathlib.Core.List.{List, [], _∷_, _++_, map}
 use lib.ListN.{replicate, set}
 use Rattle.model.specs.Clock.{Weeks, tenBit, thirteenBit}
-use Rattle.model.specs.Table.{Line, Entry, Slot, free, held, Table, tableBytes}
+use Rattle.model.specs.Table.{Line, Slot, free, held, Table, tableBytes}
 use Rattle.model.specs.Sound.{soundTable, soundBytes}
 
 -- an entry of address 9

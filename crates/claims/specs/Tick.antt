@@ -1,9 +1,9 @@
 -- Claim 4: an answered tick moves the clock, frees run-out entries and reports how many. Assumes nothing.
 use Prim.Native.Nat.{ℕ, _+_, _*_}
 use mathlib.Core.Path.{_≡_}
-use mathlib.Core.List.{List, [], _∷_}
+use mathlib.Core.List.{List}
 use lib.ListN.{length}
-use Rattle.model.specs.Lists.{count, any}
+use Rattle.model.specs.Lists.{count}
 use Rattle.model.specs.Table.{readTable, tableBytes}
 use Rattle.model.specs.Rules.{holdings}
 use Rattle.model.specs.Sound.{SoundBytes}

@@ -1,7 +1,7 @@
 -- The kinds and zeros of the layout as tests at a place in the bytes: what code looks at. Lines and slots are looked at in the part of a table
 -- that starts with them, so that nothing said of them knows where that is. Assumes nothing.
-use Prim.Native.Nat.{ℕ, zero, suc, _+_, _-_, _*_}
-use mathlib.Core.Bool.{Bool, true, false, cond, _&&_, _||_}
+use Prim.Native.Nat.{ℕ, _+_, _-_, _*_}
+use mathlib.Core.Bool.{Bool, cond, _&&_, _||_}
 use mathlib.Core.List.{List}
 use lib.ListN.{getD, drop, replicate}
 use lib.Dec.{eqb}

@@ -1,10 +1,9 @@
 -- The options in order: from the table once the clock is moved, as the model has it from the table before the call. Assumes nothing.
 use Prim.Native.Nat.{ℕ, zero, suc, _+_}
 use native.Mathlib.Numerals.{add-one}
-use mathlib.Core.Path.{_≡_, refl, sym, ap, _∙_}
-use mathlib.Core.Bool.{Bool, true, false, cond}
+use mathlib.Core.Path.{_≡_, refl, ap}
+use mathlib.Core.Bool.{cond}
 use mathlib.Core.List.{List, [], _∷_}
-use Rattle.model.specs.Lists.{upTo}
 use Rattle.model.specs.Query.{Question, LlqOption, question, llqOption, qdcount, matched}
 use Rattle.model.specs.Clock.{placeOf}
 use Rattle.model.specs.Table.{Table}

@@ -8,7 +8,7 @@ use lib.ListN.{length, getD, drop, length-take}
 use lib.Dec.{eqb}
 use Rattle.model.specs.Lists.{same}
 use Rattle.model.specs.Numbers.{Bytes, part}
-use Rattle.model.specs.Table.{free, held, Layout, Table, placeBytes, tableBytes, readTable, readSlot, readLine, readEntry, runningAt, linesAt, slotAt, lineAt, listed, layoutOf, slotsIn, sizeOf}
+use Rattle.model.specs.Table.{free, held, Layout, placeBytes, tableBytes, readTable, readSlot, readLine, readEntry, runningAt, linesAt, slotAt, lineAt, listed, layoutOf, slotsIn, sizeOf}
 use Rattle.model.specs.Sound.{FitsEntry, FitsSlot, FitsLine, Fits, Sound, SoundBytes, soundTable, soundBytes}
 use Rattle.model.proofs.NumberLaws.{big-lt, bytes-part}
 use Rattle.model.proofs.ListLaws.{and-left, and-right, same-true, same-refl, length-upTo, getD-upTo}
@@ -97,7 +97,3 @@ read-stored b s = ap readTable (sym (s .bytes)) ∙ table-back (s .table) (s .so
 pub means-sound : (b : List ℕ) → SoundBytes b → soundBytes b ≡ true
 unfolding soundBytes
 means-sound b s = rw (read-stored b s, s .bytes, same-refl b) (facts-sound (s .table) (s .sound))
-
--- the bytes of a sound table are sound
-pub bytes-sound : (t : Table) → Sound t → Fits t → soundBytes (tableBytes t) ≡ true
-bytes-sound t s f = means-sound (tableBytes t) (record { table = t; sound = s; fits = f; bytes = refl })

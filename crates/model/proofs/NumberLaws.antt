@@ -6,7 +6,7 @@ use lib.Dec.{lit<}
 use mathlib.Core.Path.{_≡_, refl, sym, ap, _∙_}
 use mathlib.Core.List.{List, [], _∷_, _++_, append-assoc, append-nil}
 use lib.ListN.{length, take, drop, getD, set, length-append, length-take, length-drop, take-append-drop, drop-of-length-le, replicate}
-use lib.Seq.{drop-cons, take-suc, getD-drop, getD-take, getD-at, take-at, drop-at, getD-append-add, length-take-le, drop-drop, set-split, set-at, take-length}
+use lib.Seq.{drop-cons, take-suc, getD-drop, getD-take, getD-at, take-at, drop-at, getD-append-add, drop-drop, set-split, set-at, take-length}
 use native.Mathlib.Numerals.{add-one}
 use Rattle.model.specs.Numbers.{bigEndian, Bytes, bytesOf, part, splice, encode}
 use Rattle.model.proofs.Fields.{width, offset, writes}
@@ -51,11 +51,6 @@ big-bytes (suc k) x p q h =
       getD-at (bytesOf k (x / 256)) (x % 256) q 0 k (length-bytes k (x / 256)),
     )
     (omega arith)
-
--- what was written is read
-pub big-splice : (s : List ℕ) (at k x : ℕ) → at ≤ length s → x < 256 ^ k → bigEndian (splice at k (bytesOf k x) s) at k ≡ x
-unfolding splice
-big-splice s at k x h l = rw (length-take-le at s h) at (big-bytes k x (take at s) (drop (at + k) s) l)
 
 -- what was read is written
 pub bytes-big : (s : List ℕ) (at k : ℕ) → Bytes s → at + k ≤ length s → bytesOf k (bigEndian s at k) ≡ part at k s

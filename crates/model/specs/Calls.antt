@@ -1,16 +1,15 @@
 -- Document 01's three calls: from arguments and lent bytes to the numbered answer and the bytes left. Assumes nothing.
-use Prim.Native.Nat.{ℕ, zero, suc, _+_, _-_, _*_, _/_}
-use mathlib.Core.Path.{_≡_}
-use mathlib.Core.Bool.{Bool, true, false, not, cond, _&&_, _||_}
+use Prim.Native.Nat.{ℕ, zero, suc, _+_, _*_, _/_}
+use mathlib.Core.Bool.{Bool, not, cond, _&&_, _||_}
 use mathlib.Core.List.{List, [], _∷_, _++_}
 use lib.ListN.{length, getD, drop, replicate}
 use lib.Dec.{eqb, leb, ltb}
 use Rattle.model.specs.Lists.{count, every, upTo}
-use Rattle.model.specs.Clock.{Clock, validReading, placeOf, advance}
+use Rattle.model.specs.Clock.{validReading, placeOf, advance}
 use Rattle.model.specs.Query.{wrongSize, goodHeader, qdcount, goodQuestions, questionsEnd, goodOpt, llqOptions, matched, question, llqOption}
-use Rattle.model.specs.Table.{Line, Slot, free, Table, tableBytes, readTable, readLine, sizeOf, layoutOf, slotsIn, cycleIn}
+use Rattle.model.specs.Table.{Line, free, Table, tableBytes, readTable, readLine, sizeOf, layoutOf, slotsIn, cycleIn}
 use Rattle.model.specs.Sound.{soundBytes, soundRoster}
-use Rattle.model.specs.Serve.{Sender, Outcome, serveOption, withClock, slotRunOut, movedOn}
+use Rattle.model.specs.Serve.{Sender, Outcome, serveOption, slotRunOut, movedOn}
 use Rattle.model.specs.Reply.{replyBytes, replyLength, mismatch}
 
 -- ARGUMENTS, all but the table's bytes and the reply buffer's

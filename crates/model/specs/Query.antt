@@ -1,7 +1,7 @@
 -- Document 01, "Reading a query": a datagram d read strictly left to right, header, questions, OPT record, options. Assumes nothing.
 -- Each reader is total; what it gives counts only where the tests of refusals 3 to 7 have passed.
-use Prim.Native.Nat.{ℕ, zero, suc, _+_, _-_, _*_, _/_, _%_}
-use mathlib.Core.Bool.{Bool, true, false, not, cond, _&&_, _||_}
+use Prim.Native.Nat.{ℕ, zero, suc, _+_, _/_, _%_}
+use mathlib.Core.Bool.{Bool, false, cond, _&&_, _||_}
 use mathlib.Core.List.{List, [], _∷_, map}
 use lib.ListN.{length, getD, drop}
 use lib.Dec.{eqb, leb, ltb}

@@ -3,11 +3,11 @@
 use Prim.Native.Nat.{ℕ, zero, suc, _+_, _-_, _%_, _^_, _≤_, _<_, min, max}
 use mathlib.Core.Path.{_≡_}
 use mathlib.Core.Logic.{_⊎_, _≢_}
-use mathlib.Core.Bool.{Bool, true, false, not, cond, _&&_, _||_}
+use mathlib.Core.Bool.{Bool, cond, _&&_, _||_}
 use mathlib.Core.List.{List, [], _∷_}
-use lib.Dec.{eqb, leb, ltb}
-use Rattle.model.specs.Lists.{count, any, same}
-use Rattle.model.specs.Clock.{Clock, ageAt}
+use lib.Dec.{eqb, leb}
+use Rattle.model.specs.Lists.{any, same}
+use Rattle.model.specs.Clock.{ageAt}
 use Rattle.model.specs.Query.{Question}
 use Rattle.model.specs.Table.{Line, Entry, Slot, free, held, Table}
 

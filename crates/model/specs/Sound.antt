@@ -1,14 +1,14 @@
 -- Document 01's sound table: rule by rule as a record of facts, and as a test. Assumes nothing.
-use Prim.Native.Nat.{ℕ, zero, suc, _+_, _*_, _^_, _≤_, _<_}
+use Prim.Native.Nat.{ℕ, _+_, _^_, _≤_, _<_}
 use mathlib.Core.Path.{_≡_}
-use mathlib.Core.Bool.{Bool, true, false, not, cond, _&&_, _||_}
-use mathlib.Core.List.{List, [], _∷_}
+use mathlib.Core.Bool.{Bool, not, _&&_}
+use mathlib.Core.List.{List}
 use lib.ListN.{length, getD}
 use lib.Dec.{eqb, leb, ltb}
 use Rattle.model.specs.Lists.{count, any, every, noTwo, same}
 use Rattle.model.specs.Names.{lowerName}
 use Rattle.model.specs.Table.{Line, Entry, Slot, free, held, Table, placeBytes, cycleIn, tableBytes, readTable}
-use Rattle.model.specs.Rules.{Holding, holdings, heldBy, numbered, Counts, limitOf, reserve, shares}
+use Rattle.model.specs.Rules.{Holding, holdings, heldBy, numbered, limitOf, reserve, shares}
 
 -- OF ONE LINE: 0 ≤ share ≤ limit, limit is 1 to 64
 abbrev pub validLine : Line → Bool

@@ -5,7 +5,6 @@ use mathlib.Core.Bool.{cond}
 use mathlib.Core.List.{List}
 use lib.Dec.{eqb}
 use Rattle.model.specs.Serve as serve
-use Rattle.wire.specs.declared.LlqNumber.{LlqNumber}
 use Rattle.wire.specs.declared.LlqOption.{LlqOption}
 use Rattle.table.specs.Written.{Written}
 use Rattle.options.specs.declared.Outcome.{Outcome}

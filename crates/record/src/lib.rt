@@ -1,5 +1,5 @@
 // One record's bytes: of a slot or a roster line, wherever they lie, its kind and zeros and the rules that it meets by itself; of a table's clock, its two numbers
-// read and written. Here alone a place is taken as 4 bytes or 8.
+// read and written. Here alone a place is read and written as 4 bytes or 8.
 ghost use mathlib.Core.Path.{_≡_};
 ghost use mathlib.Core.Bool.{_&&_};
 ghost use mathlib.Core.List.{_∷_, []};

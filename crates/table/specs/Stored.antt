@@ -1,11 +1,10 @@
 -- The code's entry as it is stored. Assumes nothing.
 use Prim.Native.Nat.{ℕ, _+_, _-_}
-use mathlib.Core.Bool.{Bool, true, false}
+use mathlib.Core.Bool.{Bool}
 use mathlib.Core.List.{List, [], _∷_, _++_}
 use lib.ListN.{length, replicate}
 use Rattle.model.specs.Numbers.{bytesOf, encode}
 use Rattle.model.specs.Table as table
-use Rattle.wire.specs.declared.LlqNumber.{LlqNumber}
 use Rattle.record.specs.State.{kindByte}
 use Rattle.entries.specs.declared.Entry.{Entry}
 use Rattle.entries.specs.Reads.{addressOf}

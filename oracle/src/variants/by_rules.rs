@@ -47,7 +47,7 @@ wrong! {
     // Document 01's impostor.
     FullToEveryone
 
-    // The clock. Those of the step are wrong on tables for weeks of ten bits, and each once more on
+    // The clock. Those named Step are wrong on tables for weeks of ten bits, and each once more on
     // those for weeks of thirteen bits (ON_EITHER).
     /// Half a cycle is a step forward.
     StepTieForward

@@ -3,10 +3,8 @@ use Prim.Native.Nat.{ℕ}
 use native.Mathlib.Omega.{arith}
 use mathlib.Core.Path.{_≡_, refl, sym, ap, _∙_, subst}
 use mathlib.Core.List.{List}
-use lib.ListN.{length}
 use Rattle.model.specs.Clock.{Weeks, tenBit, thirteenBit, cycleOf}
 use Rattle.model.specs.Table.{Table, readTable, tableBytes}
-use Rattle.model.specs.Rules.{holdings}
 use Rattle.model.specs.Sound.{Sound, Fits, SoundBytes}
 use Rattle.model.proofs.RoundTrip.{table-back}
 use Rattle.model.proofs.Meaning.{read-stored}

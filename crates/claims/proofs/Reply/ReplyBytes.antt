@@ -11,7 +11,7 @@ use Rattle.model.proofs.Fields.{offset}
 use Rattle.model.specs.Query.{messageNumber, flagRD, qdcount, questionsEnd}
 use Rattle.model.specs.Serve.{Outcome}
 use Rattle.model.specs.Reply.{headerBytes, questionBytes, optBytes, optionBytes, replyBytes}
-use Rattle.model.proofs.NumberLaws.{length-part, getD-part, length-encode, bytes-nil, bytes-append, bytes-part, bytes-encode}
+use Rattle.model.proofs.NumberLaws.{getD-part, bytes-nil, bytes-append, bytes-part, bytes-encode}
 use Rattle.model.proofs.ListLaws.{length-flat}
 use Rattle.model.proofs.ReplyLaws.{length-header, length-questions, length-opt, length-option}
 use Rattle.model.proofs.SlotLaws.{field-behind}

@@ -1,6 +1,5 @@
 -- `options::number_of` meets its contract. Assumes nothing.
 use borrow.Author.Needs.{needs}
-use mathlib.Core.Path.{sym, ap, _∙_}
 use Rattle.options.proofs.number_of.Statement.{statement}
 use Rattle.options.proofs.number_of.Tie as tie
 use Rattle.options.proofs.number_of.Reads as reads
