@@ -48,7 +48,7 @@ for pair in '064 096' '091 123' '193 225'; do # @ and `, [ and {, 0xC1 and 0xE1
     is "the end of byte $2" "$(llq 127.0.0.2 18503 "\\$2.example" 2 $number 0)" "0 $number 0"
 done
 
-# ---- a chatty client
+# ---- a chatty client on many ports is held to its limit, and the listed address still gets its share
 full
 
 # ---- kill -9 and restart: entries and their remaining life are kept
