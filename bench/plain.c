@@ -1,5 +1,5 @@
 /*
- * plain.c - the five calls of llq.h in plain C11, straight on the lent bytes: the baseline of the benchmark.
+ * plain.c - the three calls of llq.h in plain C11, straight on the lent bytes: the baseline of the benchmark.
  *
  * Every call tests the whole table first and judges every refusal before its first write. Nothing is allocated and nothing is
  * kept between calls. Comments in quotes are the words of documents 01 and 02.
@@ -13,19 +13,18 @@
 
 enum {
     WEEKS = 1024, WEEKS_13 = 8192, WEEK = 604800, STEP_BACK_IGNORED = 60,
-    LINES = 16, SLOTS_MOST = 64, LINES_AT = 9, LINE_SIZE = LLQ_ROSTER_RECORD, SLOTS_AT = 313, SLOT_SIZE = 320,
+    LINES = 16, SLOTS_MOST = 64, LINES_AT = 9, LINE_SIZE = 19, SLOTS_AT = 313, SLOT_SIZE = 320,
     LIMIT_MOST = 64, UNLISTED_LIMIT = 4, LEASE_LEAST = 60, LEASE_MOST = 7200, RETRY_AFTER = 60
 };
 
-enum { CLOCK = 1, UNUSED, LISTED, FREE, PENDING, ESTABLISHED, CLOCK_13 = 9, LISTED_HELD = 11, UNUSED_HELD = 13 };
+enum { CLOCK = 1, UNUSED, LISTED, FREE, PENDING, ESTABLISHED, CLOCK_13 = 9 };
 
 /*
  * Places in the table, in a roster line and in a slot, each counted from its byte of kind. With thirteen-bit weeks the clock's
- * place begins with WIDER bytes more, and all that is behind them lies so much further on. In a counted table each line ends with
- * held, a byte more, and the slots lie LINES further on.
+ * place begins with WIDER bytes more, and all that is behind them lies so much further on.
  */
 enum { PLACE_AT = 1, RUNNING_AT = 5, WIDER = 4 };
-enum { SHARE_AT = 17, LIMIT_AT = 18, HELD_AT = 19 };
+enum { SHARE_AT = 17, LIMIT_AT = 18 };
 enum {
     ADDRESS_AT = 1, PORT_AT = 17, NUMBER_AT = 19, LEASE_AT = 27, STAMP_AT = 31, TYPE_AT = 35, NAME_LENGTH_AT = 39, NAME_AT = 40
 };
@@ -82,31 +81,17 @@ static inline uint64_t capitals(uint64_t word)
 /* ---- a sound table */
 
 struct table {
-    uint8_t *bytes;          /* the first byte, or with thirteen-bit weeks the one WIDER behind it: clock and lines lie alike from it */
-    uint8_t *first;          /* the first slot */
-    bool wide;               /* thirteen-bit weeks */
-    bool counted;            /* lines with held */
-    size_t line_size;
+    uint8_t *bytes;           /* the first byte, or with thirteen-bit weeks the one WIDER behind it: from it on both lie alike */
+    bool wide;                /* thirteen-bit weeks */
     size_t slots;
-    size_t lines;            /* listed ones */
-    unsigned free;           /* free slots */
-    uint8_t held[LINES + 1]; /* holdings of each listed line, counted by the check; the last, of unlisted addresses, means nothing */
+    size_t lines;             /* listed ones */
+    unsigned free;            /* free slots */
+    unsigned held[LINES + 1]; /* holdings of each listed line; the last, of unlisted addresses, means nothing */
 };
 
 static inline uint8_t *slot_of(const struct table *t, size_t slot)
 {
-    return t->first + slot * SLOT_SIZE;
-}
-
-static inline uint8_t *line_at(const struct table *t, size_t line)
-{
-    return t->bytes + LINES_AT + line * t->line_size;
-}
-
-/* Where a line's holdings are kept up from the check on: in a counted table in the line itself. */
-static inline uint8_t *held_of(struct table *t, size_t line)
-{
-    return t->counted && line != LINES ? line_at(t, line) + HELD_AT : t->held + line;
+    return t->bytes + SLOTS_AT + slot * SLOT_SIZE;
 }
 
 /* The last half first: all IPv4-mapped addresses have the same first half. */
@@ -126,7 +111,7 @@ static inline bool same_port_and_question(const uint8_t *one, const uint8_t *oth
 static inline size_t line_of(const struct table *t, const uint8_t *address)
 {
     const uint8_t *line = t->bytes + LINES_AT;
-    for (size_t i = 0; i < t->lines; i++, line += t->line_size)
+    for (size_t i = 0; i < t->lines; i++, line += LINE_SIZE)
         if (same_address(line + 1, address))
             return i;
     return LINES;
@@ -134,46 +119,39 @@ static inline size_t line_of(const struct table *t, const uint8_t *address)
 
 static inline unsigned share_of(const struct table *t, size_t line)
 {
-    return line == LINES ? 0 : line_at(t, line)[SHARE_AT];
+    return line == LINES ? 0 : t->bytes[LINES_AT + line * LINE_SIZE + SHARE_AT];
 }
 
 static inline unsigned limit_of(const struct table *t, size_t line)
 {
-    return line == LINES ? UNLISTED_LIMIT : line_at(t, line)[LIMIT_AT];
+    return line == LINES ? UNLISTED_LIMIT : t->bytes[LINES_AT + line * LINE_SIZE + LIMIT_AT];
 }
 
 /* "the sum, over roster lines, of share less held where that is positive" */
-static unsigned reserve_of(struct table *t)
+static unsigned reserve_of(const struct table *t)
 {
     unsigned reserve = 0;
-    for (size_t i = 0; i < t->lines; i++) {
-        unsigned share = share_of(t, i), held = *held_of(t, i);
-        reserve += share > held ? share - held : 0;
-    }
+    for (size_t i = 0; i < t->lines; i++)
+        if (share_of(t, i) > t->held[i])
+            reserve += share_of(t, i) - t->held[i];
     return reserve;
 }
 
-/* What a length says: weeks, lines, where things lie, slots. False if no table has it. */
+/* What a length says: weeks, where things lie, slots. False if no table has it. */
 static inline bool lay_out(struct table *t, uint8_t *bytes, size_t length)
 {
-    if (length < LLQ_TABLE_SIZE(1) || length > LLQ_TABLE_SIZE_13_HELD(SLOTS_MOST))
+    if (length < LLQ_TABLE_SIZE(1) || length > LLQ_TABLE_SIZE_13(SLOTS_MOST))
         return false;
-    /* WIDER and LINES are bits that 320 does not have: what the length is more than that of a plain table with ten-bit weeks */
-    size_t wider = (length - SLOTS_AT) & WIDER, held = (length - SLOTS_AT) & LINES;
+    size_t wider = length & WIDER; /* a bit that neither 313 nor 320 has */
     t->bytes = bytes + wider;
-    t->first = t->bytes + SLOTS_AT + held;
     t->wide = wider != 0;
-    t->counted = held != 0;
-    t->line_size = LINE_SIZE + t->counted;
     t->slots = (length - SLOTS_AT) / SLOT_SIZE;
-    return (length - SLOTS_AT) % SLOT_SIZE == wider + held;
+    return (length - SLOTS_AT) % SLOT_SIZE == wider;
 }
 
 static inline uint32_t weeks_of(const struct table *t) { return t->wide ? WEEKS_13 : WEEKS; }
 static inline int64_t cycle_of(const struct table *t) { return t->wide ? (int64_t)WEEKS_13 * WEEK : (int64_t)WEEKS * WEEK; }
 static inline uint8_t clock_kind(const struct table *t) { return t->wide ? CLOCK_13 : CLOCK; }
-static inline uint8_t listed_kind(const struct table *t) { return t->counted ? LISTED_HELD : LISTED; }
-static inline uint8_t unused_kind(const struct table *t) { return t->counted ? UNUSED_HELD : UNUSED; }
 
 static inline uint64_t get_place(const struct table *t)
 {
@@ -189,15 +167,15 @@ static inline void put_place(const struct table *t, uint64_t place)
 }
 
 /* "listed addresses differ, 0 <= share <= limit, limit is 1 to 64, shares sum to at most n" */
-static inline bool roster_good(const uint8_t *lines, size_t count, uint8_t kind, size_t size, size_t slots)
+static bool roster_good(const uint8_t *lines, size_t count, size_t slots)
 {
     size_t shares = 0;
     for (size_t i = 0; i < count; i++) {
-        const uint8_t *line = lines + i * size;
-        if (line[0] != kind || line[SHARE_AT] > line[LIMIT_AT] || line[LIMIT_AT] < 1 || line[LIMIT_AT] > LIMIT_MOST)
+        const uint8_t *line = lines + i * LINE_SIZE;
+        if (line[0] != LISTED || line[SHARE_AT] > line[LIMIT_AT] || line[LIMIT_AT] < 1 || line[LIMIT_AT] > LIMIT_MOST)
             return false;
         shares += line[SHARE_AT];
-        for (const uint8_t *before = lines; before < line; before += size)
+        for (const uint8_t *before = lines; before < line; before += LINE_SIZE)
             if (same_address(before + 1, line + 1))
                 return false;
     }
@@ -228,15 +206,6 @@ static inline bool entry_good(const uint8_t *slot, uint32_t running)
            word_at(slot + NUMBER_AT) != 0 && name_good(slot);
 }
 
-/* A counted table's lines say what was counted, "a false one is refusal 1". */
-static inline bool held_good(const struct table *t)
-{
-    for (size_t i = 0; i < t->lines; i++)
-        if (line_at(t, i)[HELD_AT] != t->held[i])
-            return false;
-    return true;
-}
-
 /* What takes two entries, or entries and roster, to judge; fills t->held. */
 static bool entries_good(struct table *t, const uint8_t *const *entries, size_t count)
 {
@@ -257,21 +226,9 @@ static bool entries_good(struct table *t, const uint8_t *const *entries, size_t 
         size_t line = line_of(t, entry + ADDRESS_AT);
         if (held > limit_of(t, line))
             return false;
-        t->held[line] = (uint8_t)held;
+        t->held[line] = held;
     }
-    return (!t->counted || held_good(t)) && t->free >= reserve_of(t);
-}
-
-/* "One clock record, 16 roster lines (listed ones first)": false if the lines are not so. The size is a number at each call. */
-static inline bool take_lines(struct table *t, size_t size)
-{
-    const uint8_t *lines = t->bytes + LINES_AT, *line = lines;
-    for (t->lines = 0; t->lines < LINES && line[0] == listed_kind(t); line += size)
-        t->lines++;
-    for (size_t i = t->lines; i < LINES; i++, line += size)
-        if (line[0] != unused_kind(t) || !zeros(line + 1, size - 1))
-            return false;
-    return roster_good(lines, t->lines, listed_kind(t), size, t->slots);
+    return t->free >= reserve_of(t);
 }
 
 /* Take a sound table into *t; false if it is not sound. */
@@ -281,7 +238,13 @@ static bool take_table(struct table *t, uint8_t *bytes, size_t length)
     size_t count = 0;
     if (!lay_out(t, bytes, length) || bytes[0] != clock_kind(t) || get_place(t) >= (uint64_t)cycle_of(t))
         return false;
-    if (!(t->counted ? take_lines(t, LINE_SIZE + 1) : take_lines(t, LINE_SIZE)))
+    const uint8_t *line = t->bytes + LINES_AT;
+    for (t->lines = 0; t->lines < LINES && line[0] == LISTED; line += LINE_SIZE)
+        t->lines++;
+    for (size_t i = t->lines; i < LINES; i++, line += LINE_SIZE)
+        if (line[0] != UNUSED || !zeros(line + 1, LINE_SIZE - 1))
+            return false;
+    if (!roster_good(t->bytes + LINES_AT, t->lines, t->slots))
         return false;
     uint32_t running = get32(t->bytes + RUNNING_AT);
     for (size_t i = 0; i < t->slots; i++) {
@@ -338,7 +301,7 @@ static uint32_t move_clock(struct table *t, uint32_t week, uint32_t second)
 
 static void free_entry(struct table *t, uint8_t *slot)
 {
-    --*held_of(t, line_of(t, slot + ADDRESS_AT));
+    t->held[line_of(t, slot + ADDRESS_AT)]--;
     t->free++;
     memset(slot, 0, SLOT_SIZE);
     slot[0] = FREE;
@@ -498,8 +461,6 @@ static struct outcome set_up(struct table *t, uint8_t *asked, uint32_t running, 
         }
     }
     size_t line = line_of(t, asked + ADDRESS_AT);
-    if (line != LINES)
-        held = *held_of(t, line);
     if (held >= limit_of(t, line) || (held >= share_of(t, line) && t->free <= reserve_of(t)))
         return (struct outcome){SERV_FULL, 0, RETRY_AFTER};
     while (random == 0 || find_number(t, random))
@@ -511,7 +472,7 @@ static struct outcome set_up(struct table *t, uint8_t *asked, uint32_t running, 
     /* Not full: so there is a free slot, and beyond the name it is zeros already. */
     memcpy(lowest, asked, NAME_AT + (size_t)asked[NAME_LENGTH_AT]);
     t->free--;
-    ++*held_of(t, line);
+    t->held[line]++;
     return (struct outcome){NO_ERROR, random, grant(lease)};
 }
 
@@ -583,7 +544,7 @@ static uint8_t *put_option(uint8_t *at, uint16_t opcode, struct outcome outcome)
     return at + LLQ_OPTION;
 }
 
-/* ---- the five calls */
+/* ---- the three calls */
 
 uint32_t llq_make(uint32_t week, uint32_t second, uint8_t *table, size_t table_len, const uint8_t *roster, size_t roster_len)
 {
@@ -593,16 +554,15 @@ uint32_t llq_make(uint32_t week, uint32_t second, uint8_t *table, size_t table_l
         return LLQ_TABLE;
     if (!reading_good(&t, week, second))
         return LLQ_READING;
-    if (lines > LINES || roster_len % LINE_SIZE != 0 || !roster_good(roster, lines, LISTED, LINE_SIZE, t.slots))
+    if (lines > LINES || roster_len % LINE_SIZE != 0 || !roster_good(roster, lines, t.slots))
         return LLQ_ROSTER;
     memset(table, 0, table_len);
     table[0] = clock_kind(&t);
     put_place(&t, place_of(week, second));
-    for (size_t i = 0; i < LINES; i++) {
-        if (i < lines)
-            memcpy(line_at(&t, i), roster + i * LINE_SIZE, LINE_SIZE);
-        line_at(&t, i)[0] = i < lines ? listed_kind(&t) : unused_kind(&t);
-    }
+    if (roster_len != 0)
+        memcpy(t.bytes + LINES_AT, roster, roster_len);
+    for (size_t i = lines; i < LINES; i++)
+        t.bytes[LINES_AT + i * LINE_SIZE] = UNUSED;
     for (size_t i = 0; i < t.slots; i++)
         slot_of(&t, i)[0] = FREE;
     return LLQ_DONE;
@@ -653,33 +613,4 @@ struct llq_served llq_serve(uint32_t week, uint32_t second, uint64_t address_hig
         at = put_option(at, get16(option + 2), serve_option(&t, asked, running, random, option));
     }
     return (struct llq_served){LLQ_DONE, (uint32_t)length};
-}
-
-/* The source, which is only read, in the target's form: "all else kept". */
-static uint32_t move_table(uint8_t *source, size_t source_len, uint8_t *target, size_t target_len, bool counted)
-{
-    struct table from, to;
-    if (!lay_out(&to, target, target_len) || to.counted != counted || !take_table(&from, source, source_len) ||
-        from.counted == counted || from.wide != to.wide || from.slots != to.slots)
-        return LLQ_TABLE;
-    memcpy(target, source, (size_t)(line_at(&from, 0) - source));
-    for (size_t i = 0; i < LINES; i++) {
-        uint8_t *line = line_at(&to, i);
-        memcpy(line, line_at(&from, i), LINE_SIZE);
-        line[0] = i < from.lines ? listed_kind(&to) : unused_kind(&to);
-        if (counted)
-            line[HELD_AT] = from.held[i];
-    }
-    memcpy(to.first, from.first, from.slots * SLOT_SIZE);
-    return LLQ_DONE;
-}
-
-uint32_t llq_to_held(const uint8_t *source, size_t source_len, uint8_t *table, size_t table_len)
-{
-    return move_table((uint8_t *)source, source_len, table, table_len, true);
-}
-
-uint32_t llq_from_held(const uint8_t *source, size_t source_len, uint8_t *table, size_t table_len)
-{
-    return move_table((uint8_t *)source, source_len, table, table_len, false);
 }

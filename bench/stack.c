@@ -15,9 +15,8 @@ enum { SLOTS = 64, CLIENTS = 8, QUESTIONS = 8, LINE = LLQ_ROSTER_RECORD, OPTION 
 enum { SETUP = 1, REFRESH = 2 };
 
 static _Alignas(4096) uint8_t stack[STACK];
-static uint8_t table[LLQ_TABLE_SIZE_13_HELD(SLOTS)], target[sizeof table];
-static uint8_t roster[CLIENTS * LINE], datagram[LLQ_REPLY_MOST], reply[LLQ_REPLY_MOST];
-static size_t table_length, target_length, datagram_length;
+static uint8_t table[LLQ_TABLE_SIZE_13(SLOTS)], roster[CLIENTS * LINE], datagram[LLQ_REPLY_MOST], reply[LLQ_REPLY_MOST];
+static size_t table_length, datagram_length;
 static uint32_t week;
 static unsigned client;
 static uint64_t numbers[CLIENTS][QUESTIONS];
@@ -85,9 +84,6 @@ static uint32_t serve(void)
     return llq_serve(week, NOW, 0, UINT64_C(0xffffc0000200) + client, 5352, UINT64_C(0x9e3779b97f4a7c15) * (client + 1), datagram,
                      datagram_length, table, table_length, reply, sizeof reply).number;
 }
-
-static uint32_t to_held(void) { return llq_to_held(table, table_length, target, target_length); }
-static uint32_t from_held(void) { return llq_from_held(table, table_length, target, target_length); }
 
 /* ---- depth */
 
@@ -167,14 +163,13 @@ static void served_depth(const char *name, uint16_t opcode, const uint64_t *know
     deepest = depth > deepest ? depth : deepest;
 }
 
-/* The depths on a table of this length, whose weeks have so many bits and whose lines have held or not; the other form's length. */
-static void depths(size_t length, unsigned bits, int held, size_t other)
+/* The depths on a table of this length, whose weeks have so many bits. */
+static void depths(size_t length, unsigned bits)
 {
-    char title[48];
+    char title[40];
     table_length = length;
-    target_length = other;
     week = (1u << bits) - 1;
-    snprintf(title, sizeof title, "%d slots, weeks of %u bits%s", SLOTS, bits, held ? ", held" : "");
+    snprintf(title, sizeof title, "table of %d slots, weeks of %u bits", SLOTS, bits);
     printf("%-36s %7s\n", title, "bytes");
     depth_of("none: the thread's own", nothing);
     depth_of("make", make);
@@ -184,7 +179,6 @@ static void depths(size_t length, unsigned bits, int held, size_t other)
     }
     served_depth("serve, 8 setups that fill the table", SETUP, NULL, 7200);
     depth_of("tick, full table", tick);
-    depth_of(held ? "from_held, full table" : "to_held, full table", held ? from_held : to_held);
     served_depth("serve, 8 responses, full table", SETUP, numbers[client], 7200);
     served_depth("serve, 8 repeated setups, full table", SETUP, NULL, 7200);
     served_depth("serve, 8 refreshes, full table", REFRESH, numbers[client], 3600);
@@ -195,10 +189,8 @@ int main(void)
 {
     for (unsigned i = 0; i < CLIENTS; i++)
         memcpy(roster + i * LINE, (uint8_t[LINE]){3, [11] = 0xff, 0xff, 192, 0, 2, (uint8_t)i, QUESTIONS, QUESTIONS}, LINE);
-    depths(LLQ_TABLE_SIZE(SLOTS), 10, 0, LLQ_TABLE_SIZE_HELD(SLOTS));
-    depths(LLQ_TABLE_SIZE_13(SLOTS), 13, 0, LLQ_TABLE_SIZE_13_HELD(SLOTS));
-    depths(LLQ_TABLE_SIZE_HELD(SLOTS), 10, 1, LLQ_TABLE_SIZE(SLOTS));
-    depths(LLQ_TABLE_SIZE_13_HELD(SLOTS), 13, 1, LLQ_TABLE_SIZE_13(SLOTS));
+    depths(LLQ_TABLE_SIZE(SLOTS), 10);
+    depths(LLQ_TABLE_SIZE_13(SLOTS), 13);
     printf("deepest stack use of llq_serve: %zu bytes\n", deepest);
     return 0;
 }

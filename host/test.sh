@@ -7,7 +7,7 @@ cd "$(dirname "$0")/test"
 began=$EPOCHREALTIME checks=0 failed=
 seconds() { awk -v from="$1" -v to="$EPOCHREALTIME" 'BEGIN { printf "%.1f s", to - from }'; }
 
-for one in ${*:-handshake sockets clock weeks held disk statefile roster words panel install kill flood damage}; do
+for one in ${*:-handshake sockets clock weeks disk statefile roster words panel install kill flood damage}; do
     from=$EPOCHREALTIME
     said=$(timeout --foreground -k 15 90 bash $one.sh) && passed=$(sed -n '$s/^.*: \([0-9]*\) checks passed$/\1/p' <<<"$said") || passed=
     [ -z "$said" ] || echo "$said"

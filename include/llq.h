@@ -1,6 +1,5 @@
 /*
- * llq.h - DNS Long-Lived Queries (RFC 8764), server side: make a table, tick, serve a datagram; move a table to lines with held
- * and back.
+ * llq.h - DNS Long-Lived Queries (RFC 8764), server side: make a table, tick, serve a datagram.
  *
  * The caller owns every buffer and lends it for the length of one call. The library keeps nothing between calls, allocates
  * nothing and calls nothing back. A call is either done (number 0) or refused by a number; a refused call changes no byte of
@@ -29,7 +28,7 @@
 #include <stdint.h>
 
 /* Of the header, the archive and the host together. */
-#define LLQ_VERSION "0.6.0"
+#define LLQ_VERSION "0.5.0"
 
 #ifdef __cplusplus
 extern "C" {
@@ -38,9 +37,8 @@ extern "C" {
 /* The number of an answer. Where several conditions hold, the lowest number is given. */
 enum llq_number {
     LLQ_DONE = 0,
-    LLQ_TABLE = 1,     /* the table is unsound, by a false held too; making: its length is none of the four sizes of 1 to 64 slots; a
-                          move: the source is unsound or not of the form that the call takes, or the target's length is wrong */
-    LLQ_READING = 2,   /* week over 1023 on a table of ten-bit weeks, over 8191 on one of thirteen-bit weeks; second over 604799 */
+    LLQ_TABLE = 1,     /* the table is unsound; making: its length is neither an LLQ_TABLE_SIZE nor an LLQ_TABLE_SIZE_13 of 1 to 64 */
+    LLQ_READING = 2,   /* week over 1023 on a table of LLQ_TABLE_SIZE, over 8191 on one of LLQ_TABLE_SIZE_13; second over 604799 */
     LLQ_SIZE = 3,      /* the datagram has under 12 or over 1472 bytes */
     LLQ_HEADER = 4,    /* QR, OPCODE or TC not 0; QDCOUNT not 1 to 8; ANCOUNT or NSCOUNT not 0; ARCOUNT not 1 */
     LLQ_QUESTION = 5,  /* a question runs past the end, has a label byte of 64 or more, or a name over 255 bytes */
@@ -51,23 +49,15 @@ enum llq_number {
 };
 
 /*
- * A table of n slots, n from 1 to 64: a clock record, 16 roster lines, n slots of 320 bytes. It has one of four layouts, and in
- * every call its length alone says which; a record of a kind that another layout has is unsound.
- *  - Its clock goes by GPS weeks of ten bits (a record of kind 0x01, 9 bytes) or, with _13, of thirteen (kind 0x09, 13 bytes).
- *    That is fixed when the table is made: a host that changes its receiver makes a new table.
- *  - Its lines are plain, 19 bytes each, or, with _HELD, counted, 20 bytes each. llq_to_held and llq_from_held move a table from
- *    one form to the other.
- * A plain line: a byte 0x03, the address (16 bytes), the share (1), the limit (1); an unused one: 0x02 and 18 zeros.
- * A counted line: a byte 0x0B, the address (16 bytes), the share (1), the limit (1), held (1); an unused one: 0x0D and 19 zeros.
- * Held is how many slots have an entry of that address, pending or established, over all its ports. Every call keeps it; the
- * table is unsound if it is any other number. Listed lines stand before unused ones. No answer depends on the form.
+ * A table of n slots, n from 1 to 64: a clock record, 16 roster lines of 19 bytes, n slots of 320 bytes. Its clock goes by GPS
+ * weeks of ten bits (a record of kind 0x01, 9 bytes), or with LLQ_TABLE_SIZE_13 of thirteen (kind 0x09, 13 bytes). In every call
+ * the table's length alone says which; a record of the other kind is unsound. It is fixed when the table is made: a host that
+ * changes its receiver makes a new table.
  */
 #define LLQ_TABLE_SIZE(n) ((size_t)313 + (size_t)320 * (size_t)(n))
 #define LLQ_TABLE_SIZE_13(n) ((size_t)317 + (size_t)320 * (size_t)(n))
-#define LLQ_TABLE_SIZE_HELD(n) ((size_t)329 + (size_t)320 * (size_t)(n))
-#define LLQ_TABLE_SIZE_13_HELD(n) ((size_t)333 + (size_t)320 * (size_t)(n))
 
-/* A roster record, for a table of any layout: a byte 0x03, the address (16 bytes), the share (1), the limit (1). */
+/* A roster record: a byte 0x03, the address (16 bytes), the share (1), the limit (1). */
 #define LLQ_ROSTER_RECORD 19
 
 /* No reply is longer than this. */
@@ -84,12 +74,11 @@ struct llq_ticked {
 };
 
 /*
- * Make a fresh table in `table`, whatever it held. `table_len` gives the number of slots, the width of the weeks and the form of
- * the lines, whose held is 0 where they have it. A clock reading is a GPS week of ten bits (0 to 1023) or of thirteen (0 to 8191)
- * and a second of that week (0 to 604799). A week below 1024 on a table of thirteen-bit weeks is that week: it is not taken for
- * one of a later 1024. `roster` is 0 to 16 records end to end: addresses differ, share <= limit, limit is 1 to 64, and the shares
- * sum to at most the number of slots. An address that is not listed has share 0 and limit 4. Returns LLQ_DONE, 1, 2 or 9.
- * Refused: the table keeps every byte.
+ * Make a fresh table in `table`, whatever it held. `table_len` gives the number of slots and the width of the weeks. A clock
+ * reading is a GPS week of ten bits (0 to 1023) or of thirteen (0 to 8191) and a second of that week (0 to 604799). A week below
+ * 1024 on a table of thirteen-bit weeks is that week: it is not taken for one of a later 1024. `roster` is 0 to 16 records end
+ * to end: addresses differ, share <= limit, limit is 1 to 64, and the shares sum to at most the number of slots. An address that
+ * is not listed has share 0 and limit 4. Returns LLQ_DONE, 1, 2 or 9. Refused: the table keeps every byte.
  */
 uint32_t llq_make(uint32_t week, uint32_t second, uint8_t *table, size_t table_len, const uint8_t *roster, size_t roster_len);
 
@@ -120,18 +109,6 @@ struct llq_ticked llq_tick(uint32_t week, uint32_t second, uint8_t *table, size_
 struct llq_served llq_serve(uint32_t week, uint32_t second, uint64_t address_high, uint64_t address_low, uint16_t port,
                             uint64_t random, const uint8_t *datagram, size_t datagram_len, uint8_t *table, size_t table_len,
                             uint8_t *reply, size_t reply_len);
-
-/*
- * Write the table of `source` into `table`, whatever that held: llq_to_held a plain one with counted lines, llq_from_held a
- * counted one with plain lines. `table_len` is `source_len` and 16 more, or 16 less. All else is kept byte for byte: the clock
- * record, and so the width of the weeks; the order of the lines, their addresses, shares and limits; every slot. A move takes no
- * reading: the clock stays, and nothing runs out. There and back gives the same bytes. `source` is only read; as in every call
- * the two buffers must not overlap, so there is no move in place.
- * Returns LLQ_DONE, or 1 if the source is not a sound table of the form that the call takes (one that has the wanted form
- * already is none) or `table_len` is any other. Refused: the table keeps every byte.
- */
-uint32_t llq_to_held(const uint8_t *source, size_t source_len, uint8_t *table, size_t table_len);
-uint32_t llq_from_held(const uint8_t *source, size_t source_len, uint8_t *table, size_t table_len);
 
 #ifdef __cplusplus
 }

@@ -24,9 +24,6 @@ fn main() {
     }
 }
 
-/// What follows `llq_` in the calls' names.
-const CALLS: [&str; 5] = ["make", "tick", "serve", "to_held", "from_held"];
-
 /// The folder of libllq.a that the variable names.
 fn folder_of(variable: &str) -> String {
     println!("cargo:rerun-if-env-changed={variable}");
@@ -40,8 +37,8 @@ fn folder_of(variable: &str) -> String {
 fn link_as(variable: &str, archive: &str) {
     let from = folder_of(variable);
     let folder = PathBuf::from(env::var_os("OUT_DIR").expect("cargo sets OUT_DIR"));
-    // Of calls that an earlier archive does not have nothing is renamed.
-    let renamed = CALLS.map(|call| format!("--redefine-sym=llq_{call}={archive}_{call}"));
+    let renamed =
+        ["make", "tick", "serve"].map(|call| format!("--redefine-sym=llq_{call}={archive}_{call}"));
     let to = folder.join(format!("lib{archive}.a"));
     let mut command = Command::new("objcopy");
     println!("cargo:rerun-if-env-changed=LLQ_SHIFT");
@@ -70,7 +67,7 @@ fn plain() {
     let space = folder.join("space.h");
     let skipped = format!("__asm__(\".text\\n\\t.skip {shift}, 0x90\\n\");\n");
     fs::write(&space, skipped).expect("OUT_DIR is written");
-    let renamed = CALLS.map(|call| format!("-Dllq_{call}=plain_{call}"));
+    let renamed = ["make", "tick", "serve"].map(|call| format!("-Dllq_{call}=plain_{call}"));
     let flags = ["-std=gnu11", "-O3", "-march=x86-64", "-fPIE", "-c", "../bench/plain.c", "-o"];
     run(Command::new("gcc").args(renamed).arg("-include").arg(&space).args(flags).arg(&object));
     // ar adds to an archive that is there already.

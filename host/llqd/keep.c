@@ -103,7 +103,7 @@ static bool has_place(int line)
     size_t common = failing ? FAILING_COMMON : COMMON, for_listed = failing ? FAILING_LISTED : LISTED;
     if (held_count < common)
         return true;
-    size_t lines = roster_of(&last).length / RECORD_SIZE;
+    size_t lines = roster_of(&last).length / LINE_SIZE;
     return line >= 0 && lines && held_of[line] < for_listed / lines && held_count < common + for_listed;
 }
 

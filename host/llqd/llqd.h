@@ -35,40 +35,32 @@ bool refuse(char *reason, const char *format, ...) __attribute__((format(printf,
 const char *time_text(time_t seconds, char *text);
 #define TIME_SIZE 40
 
-/* ---- table.c: the bytes of a table (the four layouts of llq.h) */
+/* ---- table.c: the bytes of a table (document 01's layout) */
 
-/*
- * A clock record has its kind, its place and, in its last bytes, the running count; roster lines and slots stand behind it. A
- * line ends with held in a table that keeps it. A record of a roster is a line without held.
- */
+/* A clock record has its kind, its place and, in its last bytes, the running count; roster lines and slots stand behind it. */
 enum {
-    PLACE_AT = 1, RUNNING_SIZE = 4, RECORD_SIZE = LLQ_ROSTER_RECORD, SLOT_SIZE = 320,
-    SHARE_AT = 17, LIMIT_AT = 18, HELD_AT = 19, UNLISTED_LIMIT = 4,
+    CLOCK_SIZE = 9, CLOCK_SIZE_13 = 13, PLACE_AT = 1, RUNNING_SIZE = 4, LINE_SIZE = 19, SLOT_SIZE = 320,
+    SHARE_AT = 17, LIMIT_AT = 18, UNLISTED_LIMIT = 4,
     ADDRESS_AT = 1, PORT_AT = 17, NUMBER_AT = 19, LEASE_AT = 27, STAMP_AT = 31, TYPE_AT = 35, CLASS_AT = 37, NAME_AT = 40,
-    KIND_LISTED = 3, KIND_FREE = 4, KIND_ESTABLISHED = 6, KIND_LISTED_HELD = 11,
+    KIND_LISTED = 3, KIND_FREE = 4, KIND_ESTABLISHED = 6,
     WEEK = 604800
 };
 
 struct table {
     size_t length;
-    uint8_t bytes[LLQ_TABLE_SIZE_13_HELD(SLOTS_MOST) + 1]; /* one more, so that a file that is longer is seen to be */
+    uint8_t bytes[LLQ_TABLE_SIZE_13(SLOTS_MOST) + 1]; /* one more, so that a file that is longer is seen to be */
 };
 
 struct roster {
     size_t length;
-    uint8_t bytes[LINES_MOST * RECORD_SIZE];
+    uint8_t bytes[LINES_MOST * LINE_SIZE];
 };
 
 uint64_t number_at(const uint8_t *bytes, size_t width);
-/* The length of a table with weeks of so many bits, 10 or 13, whose lines have held or not. */
-size_t length_of(unsigned bits, bool held, size_t slots);
-/*
- * What a table's length says: the bits of its weeks; its form, whether its lines have held, and that in words; the seconds of
- * the weeks' cycle, the bytes of its clock record, its slots.
- */
+/* The length of a table with weeks of so many bits, 10 or 13. */
+size_t length_of(unsigned bits, size_t slots);
+/* What a table's length says: the bits of its weeks, the seconds of their cycle, the bytes of its clock record, its slots. */
 unsigned week_bits(const struct table *table);
-bool has_held(const struct table *table);
-const char *form_text(const struct table *table);
 int64_t cycle_of(const struct table *table);
 size_t clock_size(const struct table *table);
 size_t slots_of(const struct table *table);
@@ -84,7 +76,6 @@ const uint8_t *line_at(const struct table *table, size_t index);
 int line_of(const struct table *table, const uint8_t *address);
 unsigned share_of(const struct table *table, const uint8_t *address);
 unsigned limit_of(const struct table *table, const uint8_t *address);
-/* What an address holds: from its line where that has held, else counted over the slots. */
 unsigned held_by(const struct table *table, const uint8_t *address);
 size_t entries_of(const struct table *table);
 size_t reserve_of(const struct table *table);
@@ -98,17 +89,14 @@ bool sound(struct table *table);
 const char *address_text(const uint8_t *address, char *text);
 #define ADDRESS_SIZE INET6_ADDRSTRLEN
 
-/* ---- rebuild.c: the same clock and entries in the other form, or under another roster or number of slots */
+/* ---- rebuild.c: the same clock and entries under another roster or number of slots */
 
 struct roster roster_of(const struct table *table);
 bool same_roster(const struct roster *one, const struct roster *other);
 size_t shares_of(const struct roster *roster);
-/* The same table in the form that it does not have; false if the library finds one of them unsound. */
-bool move_form(const struct table *old, struct table *moved);
-/* The old form is kept. False, with the rule that stands against it in `reason`, if the new table would not be sound. */
+/* False, with the rule that stands against it in `reason`, if the new table would not be sound. */
 bool rebuild(const struct table *old, size_t slots, const struct roster *roster, struct table *fresh, char *reason);
-/* The line that a moved or a rebuilt table was taken. */
-void say_moved(const struct table *table);
+/* The line that a rebuilt table was taken. */
 void say_rebuilt(const struct table *table);
 
 /* ---- roster.c: the roster's file */

@@ -15,21 +15,18 @@ struct options {
     const char *addresses[SOCKETS_MOST], *port, *show;
     size_t count, slots;            /* slots 0: not given */
     unsigned week_bits, clock_wait; /* bits 0: not given */
-    bool held, no_held;             /* neither: a new table is without, a state file keeps its form */
     struct settings settings;
 };
 
 static void usage(void)
 {
-    fputs("usage: llqd [--address ADDRESS].. [--port PORT] [--slots N] [--weeks BITS] [--held | --no-held] [--roster FILE]\n"
-          "            [--state FILE] [--clock-wait SECONDS] [--verbose]\n"
+    fputs("usage: llqd [--address ADDRESS].. [--port PORT] [--slots N] [--weeks BITS] [--roster FILE] [--state FILE]\n"
+          "            [--clock-wait SECONDS] [--verbose]\n"
           "       llqd --show FILE\n"
           "  --address     where to listen, IPv4 or IPv6, up to 8 times (127.0.0.1)\n"
           "  --port        UDP port (5352)\n"
           "  --slots       entries that the table can hold, 1 to 64 (16, or those of the state file)\n"
           "  --weeks       bits of the GPS weeks by which a new table goes, 10 or 13 (10, or those of the state file)\n"
-          "  --held        a table whose roster lines have held, what their address holds; a state file without it is moved\n"
-          "  --no-held     one whose lines do not (that, or the form of the state file); a state file with held is moved\n"
           "  --roster      lines ADDRESS SHARE LIMIT; '#' starts a comment; read anew on SIGHUP\n"
           "  --state       keep the table in this file and take it up again at start\n"
           "  --clock-wait  how long to wait at start for a system clock that is not set yet (300)\n"
@@ -66,9 +63,9 @@ static const char *file_of(const char *text, const char *option)
 static void read_options(int argc, char **argv, struct options *options)
 {
     static const struct option names[] = {
-        {"address", 1, 0, 'a'}, {"port", 1, 0, 'p'}, {"slots", 1, 0, 'n'}, {"weeks", 1, 0, 'b'}, {"held", 0, 0, 'k'},
-        {"no-held", 0, 0, 'K'}, {"roster", 1, 0, 'r'}, {"state", 1, 0, 's'}, {"clock-wait", 1, 0, 'w'}, {"verbose", 0, 0, 'v'},
-        {"show", 1, 0, 'o'}, {"version", 0, 0, 'V'}, {"help", 0, 0, 'h'}, {0, 0, 0, 0}};
+        {"address", 1, 0, 'a'}, {"port", 1, 0, 'p'}, {"slots", 1, 0, 'n'}, {"weeks", 1, 0, 'b'}, {"roster", 1, 0, 'r'},
+        {"state", 1, 0, 's'}, {"clock-wait", 1, 0, 'w'}, {"verbose", 0, 0, 'v'}, {"show", 1, 0, 'o'}, {"version", 0, 0, 'V'},
+        {"help", 0, 0, 'h'}, {0, 0, 0, 0}};
     for (int o; (o = getopt_long(argc, argv, ":h", names, NULL)) != -1;)
         switch (o) {
         case 'a':
@@ -79,8 +76,6 @@ static void read_options(int argc, char **argv, struct options *options)
         case 'p': option_number(options->port = optarg, "port", 1, 65535); break;
         case 'n': options->slots = option_number(optarg, "slots", 1, SLOTS_MOST); break;
         case 'b': options->week_bits = bits_of(optarg); break;
-        case 'k': options->held = true; break;
-        case 'K': options->no_held = true; break;
         case 'r': options->settings.roster_path = file_of(optarg, "roster"); break;
         case 's': options->settings.state_path = file_of(optarg, "state"); break;
         case 'w': options->clock_wait = option_number(optarg, "clock-wait", 0, 1000000); break;
@@ -96,8 +91,6 @@ static void read_options(int argc, char **argv, struct options *options)
         }
     if (optind < argc)
         die("'%s' is not an option; llqd -h lists them", argv[optind]);
-    if (options->held && options->no_held)
-        die("--held and --no-held exclude each other; llqd -h lists the options");
     if (options->count == 0)
         options->count = 1; /* the default stands there */
 }
@@ -177,7 +170,7 @@ static void make_table(const struct options *options, const struct roster *roste
     int error;
     if (shares > slots)
         die("%s: the shares sum to %zu, over the %zu slots", options->settings.roster_path, shares, slots);
-    table->length = length_of(options->week_bits ? options->week_bits : 10, options->held, slots);
+    table->length = length_of(options->week_bits ? options->week_bits : 10, slots);
     struct reading now = clock_reading(table);
     uint32_t number = llq_make(now.week, now.second, table->bytes, table->length, roster->bytes, roster->length);
     if (number != LLQ_DONE)
@@ -187,30 +180,8 @@ static void make_table(const struct options *options, const struct roster *roste
     counts.saves += path != NULL;
 }
 
-/*
- * A table that was kept, in the form that is asked for. A moved one is stored before anything is served from it, and `saved` is
- * that then; where that fails the table keeps its form. After SAVE_UNSURE the file is the moved one, and main() syncs it once more.
- */
-static void take_form(const struct options *options, struct table *table, struct table *saved)
-{
-    static struct table moved;
-    const char *path = options->settings.state_path;
-    int error;
-    if (has_held(table) ? !options->no_held : !options->held)
-        return;
-    if (!move_form(table, &moved))
-        die("moving the table was refused");
-    if (state_save(path, &moved, &error) == SAVE_FAILED) {
-        say("%s: not saved: %s; the table keeps its form", path, state_error(error));
-        return;
-    }
-    counts.saves++;
-    *table = *saved = moved;
-    say_moved(table);
-}
-
-/* A table that was kept, in the form, under the roster and with the number of slots that are asked for now, if that can be. */
-static void take_up(const struct options *options, const struct roster *roster, struct table *table, struct table *saved)
+/* A table that was kept, under the roster and the number of slots that are asked for now, if that can be. */
+static void take_up(const struct options *options, const struct roster *roster, struct table *table)
 {
     static struct table fresh;
     struct reading now = clock_reading(table);
@@ -222,7 +193,6 @@ static void take_up(const struct options *options, const struct roster *roster, 
     counts.run_out += freed;
     if (freed)
         say("run out since the table was saved: %u", freed);
-    take_form(options, table, saved);
     if (!options->settings.roster_path)
         roster = &old;
     if (slots == slots_of(table) && same_roster(roster, &old))
@@ -267,7 +237,7 @@ static bool start_table(const struct options *options, int signals, struct table
         keep_again();
     if (kept) {
         *table = *saved;
-        take_up(options, &roster, table, saved);
+        take_up(options, &roster, table);
     } else {
         make_table(options, &roster, table);
         *saved = *table;

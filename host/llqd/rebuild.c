@@ -1,4 +1,4 @@
-/* A table in the other form, under another roster or with other slots: the old one's clock and entries, so that no lease is lost. */
+/* A table under another roster or with another number of slots: the old one's clock and entries, so that no lease is lost. */
 #include <string.h>
 
 #include "llqd.h"
@@ -6,10 +6,9 @@
 struct roster roster_of(const struct table *table)
 {
     struct roster roster = {0};
-    for (const uint8_t *line; (line = line_at(table, roster.length / RECORD_SIZE)); roster.length += RECORD_SIZE) {
-        memcpy(roster.bytes + roster.length, line, RECORD_SIZE);
-        roster.bytes[roster.length] = KIND_LISTED;
-    }
+    while (line_at(table, roster.length / LINE_SIZE))
+        roster.length += LINE_SIZE;
+    memcpy(roster.bytes, table->bytes + clock_size(table), roster.length);
     return roster;
 }
 
@@ -21,18 +20,9 @@ bool same_roster(const struct roster *one, const struct roster *other)
 size_t shares_of(const struct roster *roster)
 {
     size_t shares = 0;
-    for (size_t at = 0; at < roster->length; at += RECORD_SIZE)
+    for (size_t at = 0; at < roster->length; at += LINE_SIZE)
         shares += roster->bytes[at + SHARE_AT];
     return shares;
-}
-
-bool move_form(const struct table *old, struct table *moved)
-{
-    bool held = !has_held(old);
-    moved->length = length_of(week_bits(old), held, slots_of(old));
-    uint32_t number = held ? llq_to_held(old->bytes, old->length, moved->bytes, moved->length)
-                           : llq_from_held(old->bytes, old->length, moved->bytes, moved->length);
-    return number == LLQ_DONE && sound(moved);
 }
 
 /* The entries into the new table's slots: each in its own where there are as many, else from the first on. */
@@ -46,19 +36,16 @@ static void put_entries(const struct table *old, struct table *fresh)
         }
 }
 
-/*
- * A making with the new roster, the old weeks and at the old place, then the old clock and entries. Its lines are without held: the
- * library counts it when the table is moved. False if the making is refused.
- */
-static bool build(const struct table *old, size_t slots, const struct roster *roster, struct table *plain)
+/* A making with the new roster, the old weeks and at the old place, then the old clock and entries. False if it is refused. */
+static bool build(const struct table *old, size_t slots, const struct roster *roster, struct table *fresh)
 {
     uint64_t place = place_of(old);
     uint32_t week = (uint32_t)(place / WEEK), second = (uint32_t)(place % WEEK);
-    plain->length = length_of(week_bits(old), false, slots);
-    if (llq_make(week, second, plain->bytes, plain->length, roster->bytes, roster->length) != LLQ_DONE)
+    fresh->length = length_of(week_bits(old), slots);
+    if (llq_make(week, second, fresh->bytes, fresh->length, roster->bytes, roster->length) != LLQ_DONE)
         return false;
-    memcpy(plain->bytes, old->bytes, clock_size(old));
-    put_entries(old, plain);
+    memcpy(fresh->bytes, old->bytes, clock_size(old));
+    put_entries(old, fresh);
     return true;
 }
 
@@ -90,34 +77,25 @@ static void over_limit(const struct table *fresh, char *reason)
 
 bool rebuild(const struct table *old, size_t slots, const struct roster *roster, struct table *fresh, char *reason)
 {
-    static struct table plain;
     size_t shares = shares_of(roster), entries = entries_of(old);
     if (shares > slots)
         return refuse(reason, "the shares sum to %zu, over the %zu slots", shares, slots);
     if (entries > slots)
         return refuse(reason, "%zu entries, over the %zu slots", entries, slots);
     refuse(reason, "the library finds the new table unsound");
-    if (!build(old, slots, roster, &plain))
+    if (!build(old, slots, roster, fresh))
         return false;
-    if (sound(&plain)) {
-        *fresh = plain;
-        return !has_held(old) || move_form(&plain, fresh);
-    }
-    size_t beyond = beyond_shares(&plain), need = beyond + shares;
+    if (sound(fresh))
+        return true;
+    size_t beyond = beyond_shares(fresh), need = beyond + shares;
     if (need > slots)
         refuse(reason, "%zu entries beyond their shares and shares of %zu need %zu slots, there are %zu", beyond, shares, need, slots);
-    over_limit(&plain, reason);
+    over_limit(fresh, reason);
     return false;
-}
-
-void say_moved(const struct table *table)
-{
-    say("table moved to %s: %zu listed addresses, %zu slots, %zu entries kept", form_text(table), roster_of(table).length / RECORD_SIZE,
-        slots_of(table), entries_of(table));
 }
 
 void say_rebuilt(const struct table *table)
 {
-    say("new roster and slots taken: %zu listed addresses, %zu slots, %zu entries kept", roster_of(table).length / RECORD_SIZE,
+    say("new roster and slots taken: %zu listed addresses, %zu slots, %zu entries kept", roster_of(table).length / LINE_SIZE,
         slots_of(table), entries_of(table));
 }

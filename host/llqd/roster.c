@@ -45,7 +45,7 @@ static bool parse_line(char *const *words, const struct roster *before, uint8_t 
         return refuse(reason, "share '%s' is not a number from 0 to %d", words[1], limit);
     record[LIMIT_AT] = (uint8_t)limit;
     record[SHARE_AT] = (uint8_t)share;
-    for (size_t at = 0; at < before->length; at += RECORD_SIZE)
+    for (size_t at = 0; at < before->length; at += LINE_SIZE)
         if (memcmp(before->bytes + at + ADDRESS_AT, record + ADDRESS_AT, 16) == 0)
             return refuse(reason, "%s is listed twice", words[0]);
     return true;
@@ -56,7 +56,7 @@ static bool parse_file(FILE *file, struct roster *roster, int *line, char *reaso
     char text[256];
     roster->length = 0;
     for (*line = 1; fgets(text, sizeof text, file); ++*line) {
-        uint8_t record[RECORD_SIZE];
+        uint8_t record[LINE_SIZE];
         char *rest, *words[4] = {0};
         if (strlen(text) == sizeof text - 1 && text[sizeof text - 2] != '\n')
             return refuse(reason, "the line is too long");
@@ -67,8 +67,8 @@ static bool parse_file(FILE *file, struct roster *roster, int *line, char *reaso
             continue;
         if (!parse_line(words, roster, record, reason))
             return false;
-        memcpy(roster->bytes + roster->length, record, RECORD_SIZE);
-        roster->length += RECORD_SIZE;
+        memcpy(roster->bytes + roster->length, record, LINE_SIZE);
+        roster->length += LINE_SIZE;
     }
     return true;
 }

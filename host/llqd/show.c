@@ -125,7 +125,7 @@ void show_table(FILE *out, struct table *table, struct reading now, const char *
     uint32_t running = running_of(table);
     size_t slots = slots_of(table), used = entries_of(table);
     int width = address_width(table);
-    fprintf(out, "table of %zu slots, weeks of %u bits, %s, %s\n", slots, week_bits(table), form_text(table), title);
+    fprintf(out, "table of %zu slots, weeks of %u bits, %s\n", slots, week_bits(table), title);
     print_holders(out, table, width);
     if (used)
         fprintf(out, "entries:\n  %-*s   PORT  STATE        NUMBER            LEASE    LEFT     QUESTION\n", width, "ADDRESS");

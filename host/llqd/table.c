@@ -1,4 +1,4 @@
-/* The bytes of a table, read by its layout. Lines and held are written by the library alone. */
+/* The bytes of a table, read by document 01's layout. The library alone writes them. */
 #include <arpa/inet.h>
 #include <string.h>
 
@@ -12,44 +12,14 @@ uint64_t number_at(const uint8_t *bytes, size_t width)
     return value;
 }
 
-/* ---- the layout */
-
-struct layout {
-    unsigned bits;      /* of the weeks */
-    bool held;          /* whether lines have it */
-    size_t clock, line; /* the bytes of the clock record and of a line */
-};
-
-size_t length_of(unsigned bits, bool held, size_t slots)
+size_t length_of(unsigned bits, size_t slots)
 {
-    if (held)
-        return bits == 13 ? LLQ_TABLE_SIZE_13_HELD(slots) : LLQ_TABLE_SIZE_HELD(slots);
     return bits == 13 ? LLQ_TABLE_SIZE_13(slots) : LLQ_TABLE_SIZE(slots);
-}
-
-/* The layout by the length alone: without their slots the four sizes differ modulo a slot's. */
-static struct layout layout_of(const struct table *table)
-{
-    size_t rest = table->length % SLOT_SIZE;
-    bool wide = rest == LLQ_TABLE_SIZE_13(0) % SLOT_SIZE || rest == LLQ_TABLE_SIZE_13_HELD(0) % SLOT_SIZE;
-    bool held = rest == LLQ_TABLE_SIZE_HELD(0) % SLOT_SIZE || rest == LLQ_TABLE_SIZE_13_HELD(0) % SLOT_SIZE;
-    struct layout layout = {wide ? 13 : 10, held, wide ? 13 : 9, held ? 20 : 19};
-    return layout;
 }
 
 unsigned week_bits(const struct table *table)
 {
-    return layout_of(table).bits;
-}
-
-bool has_held(const struct table *table)
-{
-    return layout_of(table).held;
-}
-
-const char *form_text(const struct table *table)
-{
-    return has_held(table) ? "lines with held" : "lines without held";
+    return table->length % SLOT_SIZE == LLQ_TABLE_SIZE_13(0) % SLOT_SIZE ? 13 : 10;
 }
 
 int64_t cycle_of(const struct table *table)
@@ -59,15 +29,13 @@ int64_t cycle_of(const struct table *table)
 
 size_t clock_size(const struct table *table)
 {
-    return layout_of(table).clock;
+    return week_bits(table) == 13 ? CLOCK_SIZE_13 : CLOCK_SIZE;
 }
 
 size_t slots_of(const struct table *table)
 {
     return (table->length - slot_at(table, 0)) / SLOT_SIZE;
 }
-
-/* ---- what stands in it */
 
 uint64_t place_of(const struct table *table)
 {
@@ -81,8 +49,7 @@ uint32_t running_of(const struct table *table)
 
 size_t slot_at(const struct table *table, size_t index)
 {
-    struct layout layout = layout_of(table);
-    return layout.clock + LINES_MOST * layout.line + index * SLOT_SIZE;
+    return clock_size(table) + LINES_MOST * LINE_SIZE + index * SLOT_SIZE;
 }
 
 const uint8_t *slot_of(const struct table *table, size_t index)
@@ -92,9 +59,8 @@ const uint8_t *slot_of(const struct table *table, size_t index)
 
 const uint8_t *line_at(const struct table *table, size_t index)
 {
-    struct layout layout = layout_of(table);
-    const uint8_t *line = table->bytes + layout.clock + index * layout.line;
-    return index < LINES_MOST && line[0] == (layout.held ? KIND_LISTED_HELD : KIND_LISTED) ? line : NULL;
+    const uint8_t *line = table->bytes + clock_size(table) + index * LINE_SIZE;
+    return index < LINES_MOST && line[0] == KIND_LISTED ? line : NULL;
 }
 
 int line_of(const struct table *table, const uint8_t *address)
@@ -120,9 +86,6 @@ unsigned limit_of(const struct table *table, const uint8_t *address)
 
 unsigned held_by(const struct table *table, const uint8_t *address)
 {
-    int line = has_held(table) ? line_of(table, address) : -1;
-    if (line >= 0)
-        return line_at(table, (size_t)line)[HELD_AT];
     unsigned held = 0;
     for (size_t i = 0; i < slots_of(table); i++) {
         const uint8_t *slot = slot_of(table, i);

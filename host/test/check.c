@@ -8,12 +8,8 @@
 
 #include "client.h"
 
-/*
- * Places in a table, in a line and in a slot (document 01's layout). With thirteen-bit weeks the table's lie WIDER bytes further
- * on; lines with held have HELD_LINE bytes, so that slots lie LINES further on.
- */
-enum { RUNNING_AT = 5, LINES_AT = 9, SLOTS_AT = 313, SLOT_SIZE = 320, SLOTS_MOST = 64, WIDER = 4, LINES = 16 };
-enum { HELD_LINE = 20, LISTED_HELD = 11, HELD_AT = 19 };
+/* Places in a table and in a slot (document 01's layout). With thirteen-bit weeks the table's lie WIDER bytes further on. */
+enum { RUNNING_AT = 5, SLOTS_AT = 313, SLOT_SIZE = 320, SLOTS_MOST = 64, WIDER = 4 };
 enum { ADDRESS_AT = 1, PORT_AT = 17, NUMBER_AT = 19, LEASE_AT = 27, STAMP_AT = 31, NAME_AT = 40 };
 enum { RECORDS_MOST = 512, OPEN_MOST = 2 };
 
@@ -116,18 +112,6 @@ static void read_slot(const uint8_t *slot, uint32_t running)
     record->age = running - (uint32_t)get(slot + STAMP_AT, 4);
 }
 
-/* Each line's held is the count over the slots. */
-static void check_held(const char *path, const uint8_t *lines, const uint8_t *slots, const uint8_t *end)
-{
-    for (const uint8_t *line = lines; line < lines + LINES * HELD_LINE; line += HELD_LINE) {
-        unsigned held = 0;
-        for (const uint8_t *slot = slots; slot < end; slot += SLOT_SIZE)
-            held += line[0] == LISTED_HELD && slot[0] != FREE && memcmp(slot + ADDRESS_AT, line + ADDRESS_AT, 16) == 0;
-        if (line[HELD_AT] != held)
-            die("check: %s: a line has held %u, and its address %u", path, line[HELD_AT], held);
-    }
-}
-
 static int same(struct state found, struct state wanted)
 {
     return found.kind == wanted.kind &&
@@ -136,7 +120,7 @@ static int same(struct state found, struct state wanted)
 
 int check(const char *table_path, const char *log_path)
 {
-    static uint8_t table[SLOTS_AT + WIDER + LINES + SLOTS_MOST * SLOT_SIZE + 1];
+    static uint8_t table[SLOTS_AT + WIDER + SLOTS_MOST * SLOT_SIZE + 1];
     unsigned open_now = 0, held = 0, oldest = 0;
     struct stat about;
     recall(log_path);
@@ -148,17 +132,14 @@ int check(const char *table_path, const char *log_path)
         die("check: %s cannot be opened", table_path);
     size_t length = fread(table, 1, sizeof table, file);
     fclose(file);
-    size_t more = length < SLOTS_AT + SLOT_SIZE ? SLOT_SIZE : (length - SLOTS_AT) % SLOT_SIZE, wider = more & WIDER;
-    if (length == sizeof table || (more & ~(size_t)(WIDER | LINES)) != 0)
+    size_t wider = length < SLOTS_AT + SLOT_SIZE ? SLOT_SIZE : (length - SLOTS_AT) % SLOT_SIZE;
+    if (length == sizeof table || (wider != 0 && wider != WIDER))
         die("check: %s: %zu bytes are no table", table_path, length);
-    const uint8_t *slots = table + SLOTS_AT + more, *end = table + length;
-    for (const uint8_t *slot = slots; slot < end; slot += SLOT_SIZE)
+    for (const uint8_t *slot = table + SLOTS_AT + wider; slot < table + length; slot += SLOT_SIZE)
         if (slot[0] < FREE || slot[0] > ESTABLISHED)
             die("check: %s: a slot of kind %u", table_path, slot[0]);
         else if (slot[0] != FREE)
             read_slot(slot, (uint32_t)get(table + RUNNING_AT + wider, 4));
-    if (more & LINES)
-        check_held(table_path, table + LINES_AT + wider, slots, end);
     double saved = (double)about.st_mtim.tv_sec + (double)about.st_mtim.tv_nsec / 1e9, off_most = 0;
     for (struct record *r = records; r < records + record_count; r++) {
         held += r->found.kind != FREE;

@@ -120,12 +120,6 @@ said() { timeout -k 2 10 ${under[@]+"${under[@]}"} "$LLQD" "$@" 2>&1 </dev/null;
 # refused WHAT LINE OPTION..: it says this one line, and exit 1
 refused() { is "$1" "$(said "${@:3}")" "llqd: $2"$'\nexit 1'; }
 
-# damaged WHAT FILE AT HEX: a copy of the file with these bytes there is refused as not sound
-damaged() {
-    cp "$2" "$work/damaged"
-    bytes "$3" "$4" "$work/damaged"
-    unsound "$1" damaged
-}
 # unsound WHAT NAME: the file of this name is refused as not sound, and left as it is; then it is removed
 unsound() {
     local sum=$(stat -c '%i %Y' "$work/$2"; head -c 100000 "$work/$2" | sha256sum)
@@ -225,9 +219,6 @@ stamp() { stat -c '%i %y' "$table"; }
 # saved_again WHAT: it was saved since $saved, or is
 new_stamp() { [ "$(stamp)" != "$saved" ]; }
 saved_again() { await 5 new_stamp || fail "$1: the table was not saved again"; }
-# byte AT [FILE]: this byte of the table; size [FILE]: how many it has
-byte() { od -An -tu1 -j"$1" -N1 "${2:-$table}" | tr -d ' '; }
-size() { stat -c %s "${1:-$table}"; }
 # bytes AT HEX [FILE]: these bytes there
 bytes() { printf "$(sed 's/../\\x&/g' <<<"$2")" | dd of="${3:-$table}" bs=1 seek="$1" conv=notrunc status=none; }
 

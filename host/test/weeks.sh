@@ -5,8 +5,11 @@
 need faketime faketime || :
 alone
 date='[0-9]{4}-[0-9]{2}-[0-9]{2} [0-9]{2}:[0-9]{2}:[0-9]{2} UTC'
+# byte AT [FILE]: this byte of the table; size [FILE]: how many it has
+byte() { od -An -tu1 -j"$1" -N1 "${2:-$table}" | tr -d ' '; }
+size() { stat -c %s "${1:-$table}"; }
 # bits [FILE]: the weeks that --show tells of
-bits() { show "$@" | sed -n '1s/^table of [0-9]* slots, weeks of \([0-9]*\) bits, lines without held, saved .*/\1/p'; }
+bits() { show "$@" | sed -n '1s/^table of [0-9]* slots, weeks of \([0-9]*\) bits, saved .*/\1/p'; }
 # is_wide WHAT SLOTS: the file is a table of thirteen-bit weeks with so many slots
 is_wide() { is "$1: length, kind, what --show says" "$(size) $(byte 0) $(bits)" "$((317 + 320 * $2)) 9 13"; }
 weeks_of 13
@@ -19,10 +22,10 @@ is 'the start' "$(cat "$log")" "llqd: listening on 127.0.0.1 port $port"$'\n'"ll
 is_wide 'a new table' 6
 between 'a new table: its place' "$(place)" "$(gps $began)" "$(gps $((EPOCHSECONDS + 1)))"
 between 'a new table: its week is none of ten bits' $(($(place) / 604800)) 1024 8191
-like '--show: its first line' "$(show | head -n 1)" "table of 6 slots, weeks of 13 bits, lines without held, saved $date, 0:00:[0-5][0-9] ago"
+like '--show: its first line' "$(show | head -n 1)" "table of 6 slots, weeks of 13 bits, saved $date, 0:00:[0-5][0-9] ago"
 is '--show: the listed address' "$(show | sed -n 's/  */ /g; s/^ 127.0.0.5 \([0-9] .*\)/\1/p')" '2 3 0'
 kill -USR1 $host
-logged 'SIGUSR1' 'table of 6 slots, weeks of 13 bits, lines without held, now:'
+logged 'SIGUSR1' 'table of 6 slots, weeks of 13 bits, now:'
 end TERM
 
 # ---- setup, the setup again, response, refresh, end; the running count goes over its end meanwhile
@@ -121,10 +124,16 @@ is 'no table is made' "$(ls "$work"/new* 2>/dev/null)" ''
 start --weeks 13 --slots 2
 granted 'without --state' 127.0.0.2 18501 a.example 60
 kill -USR1 $host
-logged 'without --state: weeks' 'table of 2 slots, weeks of 13 bits, lines without held, now:'
+logged 'without --state: weeks' 'table of 2 slots, weeks of 13 bits, now:'
 end TERM
 
 # ---- what is not sound: the other width's kind, a place past the cycle, lengths between
+# damaged WHAT FILE AT HEX
+damaged() {
+    cp "$2" "$work/damaged"
+    bytes "$3" "$4" "$work/damaged"
+    unsound "$1" damaged
+}
 damaged 'thirteen bits with the kind of ten' "$table" 0 01
 damaged 'ten bits with the kind of thirteen' "$work/ten" 0 09
 damaged 'a place of the cycle' "$table" 1 "$(printf %016x $cycle)"

@@ -105,11 +105,11 @@ is 'the counters' "$(sed -n '2,9p' <<<"$squeezed")" " datagrams 40: answered 34,
  entries run out 0
  replies held 10, dropped 0, not sent 0"
 like 'the counters: saves' "$(sed -n 10p <<<"$squeezed")" ' saves ([3-9]|1[0-9]), failed 0, longest [0-9]\.[0-9]{3} s'
-is 'the table now' "$(sed -n 11p <<<"$squeezed")" 'table of 7 slots, weeks of 10 bits, lines without held, now:'
+is 'the table now' "$(sed -n 11p <<<"$squeezed")" 'table of 7 slots, weeks of 10 bits, now:'
 
 # ---- --show: the same table, in columns
 show >"$work/shown"
-like '--show: its first line' "$(head -n 1 "$work/shown")" "table of 7 slots, weeks of 10 bits, lines without held, saved $date, 0:00:[0-5][0-9] ago"
+like '--show: its first line' "$(head -n 1 "$work/shown")" "table of 7 slots, weeks of 10 bits, saved $date, 0:00:[0-5][0-9] ago"
 rest() { sed -n '/^listed addresses:$/,$p' "$1" | sed 's/ [01]:[0-9][0-9]:[0-9][0-9]  \([a-z.]* IN\)/ LEFT \1/'; }
 is '--show and SIGUSR1 agree' "$(rest "$work/shown")" "$(rest "$log")"
 is '--show: holders' "$(sed -n '2,/^entries:/p' "$work/shown" | sed 's/  */ /g; s/ $//')" "listed addresses:
@@ -183,12 +183,12 @@ is 'without --verbose: nothing is said' "$(cat "$log")" \
 end TERM
 
 # ---- --version, -h, errors of options: one line each
-is '--version' "$(said --version)" $'llqd 0.6.0\nexit 0'
+is '--version' "$(said --version)" $'llqd 0.5.0\nexit 0'
 is '--version is llq.h'\''s' "$(sed -n 's/^#define LLQ_VERSION "\(.*\)".*/llqd \1/p' "$(dirname "$0")/../../include/llq.h")" "$("$LLQD" --version)"
 is '-h and --help' "$(said -h)" "$(said --help)"
 is '-h: exit 0, nothing on stderr' "$("$LLQD" -h 2>&1 >/dev/null; echo $?)" 0
 like '-h' "$("$LLQD" -h)" 'usage: llqd .*'
-for one in address port slots weeks held no-held roster state clock-wait verbose show version; do
+for one in address port slots weeks roster state clock-wait verbose show version; do
     like "-h: --$one is there" "$("$LLQD" -h | grep -c -- "--$one\b")" '[1-9]'
 done
 refused 'a port too large' "--port '65536' is not a number from 1 to 65535" --port 65536
@@ -199,7 +199,6 @@ refused 'slots 0' "--slots '0' is not a number from 1 to 64" --slots 0
 refused 'slots 65' "--slots '65' is not a number from 1 to 64" --slots 65
 like 'clock-wait' "$(said --clock-wait soon)" $'llqd: --clock-wait \'soon\' is not a number from [0-9]+ to [0-9]+\nexit 1'
 refused 'nine addresses' 'more than 8 addresses' $(for i in 1 2 3 4 5 6 7 8 9; do echo --address 127.0.0.$i; done)
-refused '--held and --no-held' '--held and --no-held exclude each other; llqd -h lists the options' --port $port --held --no-held
 line=$'[^\n]*'
 like 'not an address' "$(said --port $port --address sign.example)" "llqd: sign.example port $port: $line"$'\nexit 1'
 like 'a word too many' "$(said --port $port more)" "llqd: $line'more'$line"$'\nexit 1'

@@ -1,13 +1,12 @@
-//! The calls: make, tick, serve, and the two moves between the forms of roster lines. Each judges
-//! everything before it writes its first byte.
+//! The three calls. Each judges everything before it writes its first byte.
 
 use crate::clock::Clock;
 use crate::fault::{self, Fault};
 use crate::query::{Query, Sender, LONGEST_DATAGRAM};
-use crate::rules::{self, Change, Law, Rules};
+use crate::rules::{Law, Rules};
 use crate::serve::{self, Writer};
 use crate::sound;
-use crate::table::{self, Line, Lines, Table, LINES, LISTED, LONGEST, ROSTER_RECORD};
+use crate::table::{self, Table, LINES, LISTED, UNUSED_LINE};
 
 #[derive(Clone, Copy, PartialEq, Eq, Debug)]
 pub struct Ticked {
@@ -19,33 +18,6 @@ pub struct Ticked {
 pub struct Served {
     pub number: u32,
     pub length: u32,
-}
-
-/// Which way a table is moved: to lines with held, or from them.
-#[derive(Clone, Copy, PartialEq, Eq, Debug)]
-pub enum Way {
-    ToHeld,
-    FromHeld,
-}
-
-impl Way {
-    pub const ALL: [Way; 2] = [Way::ToHeld, Way::FromHeld];
-
-    /// The form of the source's lines; the target's is the other.
-    pub fn from(self) -> Lines {
-        match self {
-            Way::ToHeld => Lines::Plain,
-            Way::FromHeld => Lines::Counted,
-        }
-    }
-
-    /// The way that leaves this form.
-    pub fn out_of(lines: Lines) -> Way {
-        match lines {
-            Lines::Plain => Way::ToHeld,
-            Lines::Counted => Way::FromHeld,
-        }
-    }
 }
 
 /// Makes a table: 0, 1, 2 or 9.
@@ -73,16 +45,6 @@ pub fn serve(
 ) -> Served {
     let sender = Sender { address: u128::from(address_high) << 64 | u128::from(address_low), port };
     serve_by::<Law>(week, second, sender, random, datagram, table, reply)
-}
-
-/// Moves a table of plain lines to a buffer of 16 bytes more, with held: 0 or 1.
-pub fn to_held(source: &[u8], table: &mut [u8]) -> u32 {
-    move_by::<Law>(Way::ToHeld, source, table)
-}
-
-/// Moves a table of lines with held to a buffer of 16 bytes less, without: 0 or 1.
-pub fn from_held(source: &[u8], table: &mut [u8]) -> u32 {
-    move_by::<Law>(Way::FromHeld, source, table)
 }
 
 pub fn make_by<R: Rules>(week: u32, second: u32, table: &mut [u8], roster: &[u8]) -> u32 {
@@ -114,78 +76,31 @@ pub fn serve_by<R: Rules>(
     }
 }
 
-pub fn move_by<R: Rules>(way: Way, source: &[u8], table: &mut [u8]) -> u32 {
-    match moved_over::<R>(way, source, table) {
-        Ok(()) => fault::DONE,
-        Err(number) => number,
-    }
-}
-
 /// Writes the reading's place, running count 0, the roster in the order given, free slots.
 fn made<R: Rules>(week: u32, second: u32, table: &mut [u8], roster: &[u8]) -> Result<(), u32> {
     let mut table = Table::new(table).ok_or(fault::UNSOUND)?;
-    let weeks = table.layout.weeks;
-    let place = R::place(weeks, week, second).ok_or(fault::READING)?;
-    let (lines, rest) = roster.as_chunks::<ROSTER_RECORD>();
+    let place = R::place(table.weeks, week, second).ok_or(fault::READING)?;
+    let (lines, rest) = roster.as_chunks();
     if R::faulty(Fault::RosterLength, !rest.is_empty())
         || R::faulty(Fault::RosterKind, lines.iter().any(|line| line[0] != LISTED))
         || R::faulty(Fault::RosterOver16, lines.len() > LINES)
-        || !sound::keeps_roster_rules::<R>(lines.iter().map(|line| Line(line)), table.slots.len())
+        || !sound::keeps_roster_rules::<R>(lines, table.slots.len())
     {
         return Err(fault::ROSTER);
     }
 
-    table.clock[0] = R::clock_kind(weeks);
-    table.set_clock(Clock { weeks, place, count: 0 });
-    let (listed, unused) = R::line_kinds(table.layout.lines);
-    for (at, line) in table.lines_mut().enumerate() {
-        // Held, where there is one, is 0.
-        line.fill(0);
-        line[0] = unused;
-        if let Some(given) = lines.get(at) {
-            line[..ROSTER_RECORD].copy_from_slice(given);
-            line[0] = listed;
-        }
+    table.clock[0] = R::clock_kind(table.weeks);
+    table.set_clock(Clock { weeks: table.weeks, place, count: 0 });
+    for (at, line) in table.roster.iter_mut().enumerate() {
+        *line = lines.get(at).copied().unwrap_or(UNUSED_LINE);
     }
     table.slots.iter_mut().for_each(table::clear);
     Ok(())
 }
 
-/// Writes the same clock, roster and slots with the lines' other form. The source is a sound table of
-/// the form that the way leaves, and the target has the length of one of the other form with as many
-/// slots and the same weeks; its old bytes are not looked at.
-fn moved_over<R: Rules>(way: Way, source: &[u8], target: &mut [u8]) -> Result<(), u32> {
-    let (layout, slots) = table::shape_of(source.len()).ok_or(fault::UNSOUND)?;
-    // A table is taken apart to be written, and the source is only read.
-    let mut copy = [0; LONGEST];
-    let copy = &mut copy[..source.len()];
-    copy.copy_from_slice(source);
-    let from = sound_table::<R>(copy)?;
-    if layout.lines != way.from() || target.len() != layout.other_form().length(slots) {
-        return Err(fault::UNSOUND);
-    }
-
-    let mut to = Table::new(target).expect("the length of a table");
-    to.clock.copy_from_slice(from.clock);
-    to.slots.copy_from_slice(from.slots);
-    let lines = to.layout.lines;
-    for (line, old) in to.lines_mut().zip(from.lines()) {
-        line.fill(0);
-        line[..ROSTER_RECORD].copy_from_slice(&old.0[..ROSTER_RECORD]);
-        let listed = old.kind() == layout.lines.listed_kind();
-        line[0] = if listed { lines.listed_kind() } else { lines.unused_kind() };
-    }
-    if lines == Lines::Counted {
-        for line in from.listed() {
-            to.set_held(line.address(), R::held_by(&from, line.address()));
-        }
-    }
-    Ok(())
-}
-
 fn ticked<R: Rules>(week: u32, second: u32, table: &mut [u8]) -> Result<u32, u32> {
     let mut table = sound_table::<R>(table)?;
-    let place = R::place(table.layout.weeks, week, second).ok_or(fault::READING)?;
+    let place = R::place(table.weeks, week, second).ok_or(fault::READING)?;
     Ok(move_on::<R>(&mut table, place))
 }
 
@@ -199,7 +114,7 @@ fn served<R: Rules>(
     reply: &mut [u8],
 ) -> Result<usize, u32> {
     let mut table = sound_table::<R>(table)?;
-    let place = R::place(table.layout.weeks, week, second).ok_or(fault::READING)?;
+    let place = R::place(table.weeks, week, second).ok_or(fault::READING)?;
     let query = Query::read::<R>(datagram)?;
     let length = query.reply_length();
     if length > reply.len() || R::faulty(Fault::ReplyOver1472, length > LONGEST_DATAGRAM) {
@@ -231,9 +146,7 @@ fn move_on<R: Rules>(table: &mut Table, place: u64) -> u32 {
     let mut freed = 0;
     for slot in 0..table.slots.len() {
         if !table.is_free(slot) && R::run_out(table.entry(slot), clock.count) {
-            let sender = table.entry(slot).sender();
             table.release(slot);
-            rules::recount::<R>(table, Change::RanOut, sender);
             freed += 1;
         }
     }
@@ -244,9 +157,6 @@ fn move_on<R: Rules>(table: &mut Table, place: u64) -> u32 {
 mod tests {
     use super::*;
     use crate::query::{flag, MOST_QUESTIONS};
-
-    /// An unused line of a table with plain ones.
-    const UNUSED_LINE: [u8; 19] = [2, 0, 0, 0, 0, 0, 0, 0, 0, 0, 0, 0, 0, 0, 0, 0, 0, 0, 0];
 
     const SLOTS_4: usize = 313 + 4 * 320;
     /// With weeks of thirteen bits.
@@ -309,164 +219,6 @@ mod tests {
         assert_eq!(make(8_192, 0, &mut table, &[]), 2);
         assert_eq!(make(1_024, 0, &mut table, &[]), 0);
         assert_eq!(table[..13], [9, 0, 0, 0, 0, 0x24, 0xEA, 0, 0, 0, 0, 0, 0]);
-    }
-
-    /// The same roster, of records of kind 0x03; in the table each line has held 0.
-    #[test]
-    fn makings_with_held() {
-        for (length, clock) in [(329 + 4 * 320, 9), (333 + 4 * 320, 13)] {
-            let mut table = vec![0xAA; length];
-            let roster = [listed(1, 2, 3), listed(2, 2, 64)].concat();
-            assert_eq!(make(0, 0, &mut table, &roster), 0);
-            let line = |address, share, limit| {
-                [&[0x0B], &listed(address, share, limit)[1..], &[0]].concat()
-            };
-            assert_eq!(table[clock..clock + 20], line(1, 2, 3));
-            assert_eq!(table[clock + 20..clock + 40], line(2, 2, 64));
-            for unused in table[clock + 40..clock + 320].chunks(20) {
-                assert_eq!(unused, [&[0x0D][..], &[0; 19]].concat());
-            }
-            assert_eq!(table[clock + 320], 4);
-            assert_eq!(tick(0, 0, &mut table), Ticked { number: 0, freed: 0 });
-            // Its own lines are no roster.
-            let mut kind = roster.clone();
-            kind[0] = 0x0B;
-            let before = table.clone();
-            for wrong in [kind, line(1, 2, 3), [line(1, 2, 3), line(2, 2, 64)].concat()] {
-                assert_eq!(make(0, 0, &mut table, &wrong), 9);
-                assert_eq!(table, before);
-            }
-        }
-    }
-
-    /// Held moves with the slots: up by a setup, down by an end and as entries run out, whoever asks.
-    #[test]
-    fn held_moves_with_the_slots() {
-        for (length, clock) in [(329 + 4 * 320, 9), (333 + 4 * 320, 13)] {
-            let mut table = vec![0; length];
-            let roster = [listed(1, 0, 3), listed(2, 0, 64)].concat();
-            assert_eq!(make(0, 0, &mut table, &roster), 0);
-            let helds = |table: &[u8]| [table[clock + 19], table[clock + 39]];
-            let mut reply = [0; 200];
-            let mut ask = |table: &mut [u8], second, address, port, query: &[u8]| {
-                let served = serve(0, second, 0, address, port, 7, query, table, &mut reply);
-                assert_eq!(served.number, 0);
-                helds(table)
-            };
-            let a = setups(&[b"\x01a\x00"], 60);
-            let two = setups(&[b"\x01a\x00", b"\x01b\x00"], 100);
-            assert_eq!(ask(&mut table, 0, 1, 9, &a), [1, 0]);
-            // Repeated it is held once; by another port it is another.
-            assert_eq!(ask(&mut table, 0, 1, 9, &a), [1, 0]);
-            assert_eq!(ask(&mut table, 0, 1, 10, &a), [2, 0]);
-            assert_eq!(ask(&mut table, 1, 2, 9, &two), [2, 2]);
-            // No slot is left for one who is not listed.
-            assert_eq!(ask(&mut table, 1, 3, 9, &a), [2, 2]);
-            // A response leaves it, and so does a renewal; an end does not.
-            let mut response = a.clone();
-            response[47] = 8;
-            assert_eq!(ask(&mut table, 1, 1, 10, &response), [2, 2]);
-            let mut refresh = response.clone();
-            refresh[37] = 2;
-            assert_eq!(ask(&mut table, 2, 1, 10, &refresh), [2, 2]);
-            let mut end = refresh.clone();
-            end[48..].fill(0);
-            assert_eq!(ask(&mut table, 2, 1, 10, &end), [1, 2]);
-            assert_eq!(ask(&mut table, 2, 3, 9, &a), [1, 2]);
-            // Another's call frees what has run out, and a tick does.
-            assert_eq!(ask(&mut table, 60, 3, 9, &a), [0, 2]);
-            assert_eq!(ask(&mut table, 60, 1, 9, &two), [1, 2]);
-            assert_eq!(tick(0, 101, &mut table), Ticked { number: 0, freed: 3 });
-            assert_eq!(helds(&table), [1, 0]);
-            // A refused call leaves it.
-            let before = table.clone();
-            assert_eq!(tick(8_192, 0, &mut table).number, 2);
-            assert_eq!(table, before);
-            assert_eq!(tick(0, 160, &mut table), Ticked { number: 0, freed: 1 });
-            assert_eq!(helds(&table), [0, 0]);
-        }
-    }
-
-    /// A plain table of two slots, a line for address 1, and an entry in the second slot: of address 1
-    /// or of another.
-    fn source(head: usize, address: u64) -> Vec<u8> {
-        let mut table = vec![0; head + 2 * 320];
-        make(1, 0, &mut table, &listed(1, 1, 3));
-        let mut reply = [0; 200];
-        for (at, letter) in (b'a'..b'c').enumerate() {
-            let query = setups(&[&[1, letter, 0]], 60 + 40 * at as u32);
-            serve(1, at as u32, 0, address, 9, 7, &query, &mut table, &mut reply);
-        }
-        tick(1, 60, &mut table);
-        table
-    }
-
-    #[test]
-    fn moves_there_and_back() {
-        for (plain, counted) in [(313, 329), (317, 333)] {
-            for (address, held) in [(1, 1), (2, 0)] {
-                let old = source(plain, address);
-                let mut new = vec![0xDD; counted + 2 * 320];
-                assert_eq!(to_held(&old, &mut new), 0);
-                let clock = plain - 304;
-                assert_eq!(new[..clock], old[..clock]);
-                assert_eq!(new[clock], 0x0B);
-                assert_eq!(new[clock + 1..clock + 19], old[clock + 1..clock + 19]);
-                assert_eq!(new[clock + 19], held);
-                for unused in new[clock + 20..counted].chunks(20) {
-                    assert_eq!(unused, [&[0x0D][..], &[0; 19]].concat());
-                }
-                assert_eq!(new[counted..], old[plain..]);
-                let mut back = vec![0xDD; old.len()];
-                assert_eq!(from_held(&new, &mut back), 0);
-                assert_eq!(back, old);
-                // The lease runs on in either.
-                for table in [&mut new, &mut back] {
-                    let entries = u32::from(address == 1);
-                    assert_eq!(tick(1, 100, table), Ticked { number: 0, freed: 0 });
-                    assert_eq!(tick(1, 101, table), Ticked { number: 0, freed: entries });
-                }
-            }
-        }
-    }
-
-    /// For the source, the form that it has, and the target's length; the target keeps every byte.
-    #[test]
-    fn refused_moves_keep_every_byte() {
-        for (plain, counted) in [(313, 329), (317, 333)] {
-            let old = source(plain, 1);
-            let mut new = vec![0; old.len() + 16];
-            assert_eq!(to_held(&old, &mut new), 0);
-            let refused = |call: fn(&[u8], &mut [u8]) -> u32, source: &[u8], length: usize| {
-                let mut target = vec![0xDD; length];
-                let number = call(source, &mut target);
-                number == 1 && target == vec![0xDD; length]
-            };
-            let (short, long) = (old.len(), new.len());
-            for length in [0, 1, short, long - 1, long + 1, long - 4, long + 4, long + 320] {
-                assert!(refused(to_held, &old, length), "{length}");
-            }
-            for length in [0, 1, long, short - 1, short + 1, short - 4, short + 4, short - 320] {
-                assert!(refused(from_held, &new, length), "{length}");
-            }
-            for length in [short - 16, short, long, long + 16] {
-                assert!(refused(from_held, &old, length), "{length}");
-                assert!(refused(to_held, &new, length), "{length}");
-            }
-            for (at, byte) in [(0, 2), (plain, 9), (plain - 304, 0x0B), (plain - 285, 0x0D)] {
-                let mut unsound = old.clone();
-                unsound[at] = byte;
-                assert!(refused(to_held, &unsound, long), "{byte} at {at}");
-            }
-            let held = counted - 320 + 19;
-            for (at, byte) in [(0, 2), (counted, 9), (held, 0), (held, 2), (held + 20, 1)] {
-                let mut unsound = new.clone();
-                unsound[at] = byte;
-                assert!(refused(from_held, &unsound, short), "{byte} at {at}");
-            }
-            assert!(refused(to_held, &[], 16));
-            assert!(refused(from_held, &[], 0));
-        }
     }
 
     /// The length alone says which weeks are read, and a week is never taken modulo 1,024.
@@ -545,13 +297,6 @@ mod tests {
             (313 + 65 * 320, 0, 0, vec![], 1),
             (317, 0, 0, vec![], 1),
             (317 + 65 * 320, 0, 0, vec![], 1),
-            (329, 0, 0, vec![], 1),
-            (329 + 65 * 320, 0, 0, vec![], 1),
-            (333, 0, 0, vec![], 1),
-            (333 + 65 * 320, 0, 0, vec![], 1),
-            (329 + 4 * 320, 1_024, 0, seventeen.clone(), 2),
-            (333 + 4 * 320, 8_192, 0, seventeen.clone(), 2),
-            (329 + 4 * 320, 1_023, 0, seventeen.clone(), 9),
             (WIDE_SLOTS_4 - 1, 8_192, 604_800, seventeen.clone(), 1),
             (WIDE_SLOTS_4 + 1, 8_192, 604_800, seventeen.clone(), 1),
             (WIDE_SLOTS_4, 8_192, 0, seventeen.clone(), 2),

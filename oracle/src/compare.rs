@@ -3,16 +3,13 @@
 //! three are compared: numbers, lengths, freed counts, every byte of tables and
 //! replies, the bytes around the buffers, and the table's content with the tally.
 
-use crate::beside::Beside;
-use crate::calls::Way;
 use crate::clock::Weeks;
 use crate::coverage::{Coverage, Mark};
-use crate::held;
 use crate::random::Random;
 use crate::script::{self, Datagram, Step};
 use crate::server::Server;
 use crate::set_back::SetBack;
-use crate::table::{self, Lines};
+use crate::table;
 use crate::tally::{self, Answer, Case, Tally};
 use crate::told::ToldLeases;
 
@@ -58,15 +55,12 @@ pub struct Run<'a> {
     by_calls: bool,
     told: ToldLeases,
     set_back: SetBack,
-    /// The way that the table was moved last since it was made, or put there by no call.
-    moved: Option<Way>,
-    beside: Beside,
     pub coverage: Coverage,
 }
 
-pub type Outcome = Result<(), String>;
+type Outcome = Result<(), String>;
 
-pub fn same<T: PartialEq + std::fmt::Debug>(what: &str, tested: T, right: T) -> Outcome {
+fn same<T: PartialEq + std::fmt::Debug>(what: &str, tested: T, right: T) -> Outcome {
     if tested == right {
         Ok(())
     } else {
@@ -74,7 +68,7 @@ pub fn same<T: PartialEq + std::fmt::Debug>(what: &str, tested: T, right: T) -> 
     }
 }
 
-pub fn same_bytes(what: &str, tested: &[u8], right: &[u8]) -> Outcome {
+fn same_bytes(what: &str, tested: &[u8], right: &[u8]) -> Outcome {
     match tested.iter().zip(right).position(|(tested, right)| tested != right) {
         Some(at) => {
             Err(format!("{what}: byte {at} is {:02x}, but {:02x} is right", tested[at], right[at]))
@@ -97,8 +91,6 @@ impl<'a> Run<'a> {
             by_calls: false,
             told: ToldLeases::default(),
             set_back: SetBack::default(),
-            moved: None,
-            beside: Beside::default(),
             coverage: Coverage::default(),
         }
     }
@@ -126,7 +118,6 @@ impl<'a> Run<'a> {
     fn carry_out(&mut self, step: &Step) -> Outcome {
         match step {
             Step::Buffer { length, seed } => {
-                self.beside = Beside::default();
                 self.put_table(&script::buffer(*length, *seed));
                 Ok(())
             }
@@ -145,11 +136,6 @@ impl<'a> Run<'a> {
             Step::Make { week, second, roster } => self.make(*week, *second, roster),
             Step::Tick { week, second } => self.tick(*week, *second),
             Step::Serve(datagram) => self.serve(datagram),
-            Step::Move { way, length, seed } => self.move_table(*way, *length, *seed),
-            Step::Beside { seed } => {
-                self.beside.start(&self.right_table, *seed);
-                Ok(())
-            }
         }
     }
 
@@ -161,8 +147,6 @@ impl<'a> Run<'a> {
         self.by_calls = false;
         self.told = ToldLeases::default();
         self.set_back = SetBack::default();
-        self.moved = None;
-        self.beside.put(bytes);
     }
 
     fn make(&mut self, week: u32, second: u32, roster: &[u8]) -> Outcome {
@@ -177,26 +161,19 @@ impl<'a> Run<'a> {
         let entries = self.tally.as_ref().map_or(0, |tally| tally.holdings.len());
         let answer = tally::make(&mut self.tally, week, second, before.len(), roster);
         self.compare_with_tally(number, &answer, &before)?;
-        let table = self.tested_table.inner();
-        self.beside.make(self.tested, (week, second), roster, number, table)?;
 
         self.coverage.makings[number as usize] += 1;
         self.mark_refused(number, week, second, &before);
         if let (0, Some(tally)) = (number, &self.tally) {
             self.by_calls = true;
             self.set_back = SetBack::default();
-            self.moved = None;
             let wide = tally.weeks == 8_192;
-            let counted = is_counted(&before);
             self.coverage.mark(Mark::MadeOverEntries, entries > 0);
             self.coverage.mark(Mark::OneSlot, !wide && tally.slots == 1);
             self.coverage.mark(Mark::WideOneSlot, wide && tally.slots == 1);
             self.coverage.mark(Mark::SixtyFourSlots, !wide && tally.slots == 64);
             self.coverage.mark(Mark::WideSixtyFourSlots, wide && tally.slots == 64);
             self.coverage.mark(Mark::SixteenLines, tally.roster.len() == 16);
-            self.coverage.mark(Mark::HeldOneSlot, counted && tally.slots == 1);
-            self.coverage.mark(Mark::HeldSixtyFourSlots, counted && tally.slots == 64);
-            self.coverage.mark(Mark::HeldOfSixteenLines, counted && tally.roster.len() == 16);
         }
         Ok(())
     }
@@ -211,13 +188,9 @@ impl<'a> Run<'a> {
         let answer = tally::tick(&mut self.tally, week, second);
         same("entries freed by tick", ticked.freed as usize, answer.freed)?;
         self.compare_with_tally(ticked.number, &answer, &before)?;
-        self.beside.tick(self.tested, (week, second), ticked, self.tested_table.inner())?;
 
         self.coverage.ticks[ticked.number as usize] += 1;
         self.mark_refused(ticked.number, week, second, &before);
-        if ticked.number == 0 {
-            held::call(&mut self.coverage, &before, &self.right_table, None, false);
-        }
         self.mark_clock(known.as_ref(), ticked.number, week, second);
         Ok(())
     }
@@ -276,49 +249,12 @@ impl<'a> Run<'a> {
         same_bytes("reply by the tally", said, &answer.reply)?;
         same("bytes past the reply kept", untouched.iter().all(|&byte| byte == sent.fill), true)?;
         self.compare_with_tally(served.number, &answer, &before)?;
-        let table = self.tested_table.inner();
-        self.beside.serve(self.tested, sent, served, reply.inner(), table)?;
 
         self.coverage.datagrams[served.number as usize] += 1;
         answer.cases.iter().for_each(|&case| self.coverage.case(case));
         self.mark_refused(served.number, sent.week, sent.second, &before);
-        if served.number == 0 {
-            self.mark_held(&before, address.to_be_bytes(), &answer.cases);
-        }
         self.mark_clock(known.as_ref(), served.number, sent.week, sent.second);
         self.mark_datagram(known, sent, &answer);
-        Ok(())
-    }
-
-    /// Source and target are two buffers. If it is answered the calls after it are on the target, and
-    /// the tally is the one so far.
-    fn move_table(&mut self, way: Way, length: usize, seed: u64) -> Outcome {
-        let before = script::buffer(length, seed);
-        let mut right_target = before.clone();
-        let right = self.reference.move_table(way, &self.right_table, &mut right_target);
-        let mut target = Guarded::new(&before, &mut self.random);
-        let kept = self.tested_table.bytes.clone();
-        let number = self.tested.move_table(way, self.tested_table.inner(), target.inner_mut());
-        same("number of move", number, right)?;
-        same_bytes("source lent to a move", &self.tested_table.bytes, &kept)?;
-        same("bytes around the target kept", target.margins_kept(), true)?;
-        same_bytes("target of a move", target.inner(), &right_target)?;
-
-        let source = &self.right_table;
-        let judged = tally::table::moved(way == Way::ToHeld, source, length);
-        same("number of move by the tally", number, u32::from(judged.is_none()))?;
-        let after = judged.as_ref().unwrap_or(&before);
-        same_bytes("target of a move by the tally", target.inner(), after)?;
-
-        self.coverage.moved(way, number);
-        self.mark_move(way, length, number);
-        if number == 0 {
-            self.right_table = right_target;
-            self.tested_table = target;
-            self.moved = Some(way);
-            self.table_is_the_tally_s()?;
-            self.beside.moved(self.tested, way, self.tested_table.inner())?;
-        }
         Ok(())
     }
 
@@ -331,14 +267,10 @@ impl<'a> Run<'a> {
         if number != 0 {
             same_bytes("table of a refused call", table, before)?;
         }
-        self.table_is_the_tally_s()
-    }
-
-    fn table_is_the_tally_s(&self) -> Outcome {
         let Some(tally) = &self.tally else {
             return Ok(());
         };
-        let Some(mut seen) = tally::table::read(self.tested_table.inner()) else {
+        let Some(mut seen) = tally::table::read(table) else {
             return Err("the table is unsound after the call".into());
         };
         seen.holdings.sort();
@@ -347,18 +279,15 @@ impl<'a> Run<'a> {
         same("table's clock, n, roster and entries by the tally", seen, tally)
     }
 
-    /// A reading or a record that the table's length refuses, where all else is right.
+    /// A reading or a clock record that the table's length refuses, where all else is right.
     fn mark_refused(&mut self, number: u32, week: u32, second: u32, table: &[u8]) {
-        let Some((layout, _)) = table::shape_of(table.len()) else {
+        let Some((weeks, _)) = table::shape_of(table.len()) else {
             return;
         };
-        if number == 1 {
-            held::refused(&mut self.coverage, table);
-        }
         let week = if number == 2 && second < 604_800 { week } else { 0 };
         let other_kind = number == 1 && is_sound_but_for_kind(table);
         let coverage = &mut self.coverage;
-        match layout.weeks {
+        match weeks {
             Weeks::Ten => {
                 coverage.mark(Mark::Week1024Refused, (1_024..8_192).contains(&week));
                 coverage.mark(Mark::Kind9Refused, other_kind);
@@ -370,59 +299,12 @@ impl<'a> Run<'a> {
         }
     }
 
-    /// An answered datagram of this sender, the table before it, and what became of its options.
-    fn mark_held(&mut self, before: &[u8], from: [u8; 16], cases: &[Case]) {
-        let coverage = &mut self.coverage;
-        held::call(coverage, before, &self.right_table, Some(from), cases.contains(&Case::Ended));
-        let listed = |tally: &Tally| tally.roster.iter().any(|line| line.address == from);
-        let unlisted = is_counted(before) && !self.tally.as_ref().is_some_and(listed);
-        coverage.mark(Mark::HeldUnlistedAtLimit, unlisted && cases.contains(&Case::FullAtLimit));
-        coverage.mark(Mark::HeldAllReserved, unlisted && cases.contains(&Case::FullReserved));
-        coverage.mark(Mark::DatagramAfterToHeld, self.moved == Some(Way::ToHeld));
-        coverage.mark(Mark::DatagramAfterFromHeld, self.moved == Some(Way::FromHeld));
-        coverage.mark(Mark::DatagramOnBothForms, self.beside.is_there());
-    }
-
-    /// A move from the table into a buffer of this length.
-    fn mark_move(&mut self, way: Way, length: usize, number: u32) {
-        let Some((layout, slots)) = table::shape_of(self.right_table.len()) else {
-            return;
-        };
-        let form = layout.lines == way.from();
-        let right_length = length == layout.other_form().length(slots);
-        let held = self.tally.as_ref().is_some_and(|tally| !tally.holdings.is_empty());
-        let (done, sound) = (number == 0 && held, self.tally.is_some());
-        let [moved, wide, source, wrong_length, wanted] = match way {
-            Way::ToHeld => [
-                Mark::MovedToHeld,
-                Mark::WideMovedToHeld,
-                Mark::ToHeldSourceRefused,
-                Mark::ToHeldLengthRefused,
-                Mark::ToHeldFormRefused,
-            ],
-            Way::FromHeld => [
-                Mark::MovedFromHeld,
-                Mark::WideMovedFromHeld,
-                Mark::FromHeldSourceRefused,
-                Mark::FromHeldLengthRefused,
-                Mark::FromHeldFormRefused,
-            ],
-        };
-        let coverage = &mut self.coverage;
-        coverage.mark(moved, done);
-        coverage.mark(wide, done && layout.weeks == Weeks::Thirteen);
-        coverage.mark(source, !sound && form && right_length);
-        coverage.mark(wrong_length, sound && form && !right_length);
-        coverage.mark(wanted, sound && !form);
-    }
-
     fn mark_clock(&mut self, known: Option<&Tally>, number: u32, week: u32, second: u32) {
         self.coverage.mark(Mark::Unsound, number == 1);
         let (Some(before), Some(after), 0) = (known, &self.tally, number) else {
             return;
         };
-        let shape = table::shape_of(self.right_table.len());
-        let weeks = shape.expect("answered, so a table").0.weeks;
+        let (weeks, _) = table::shape_of(self.right_table.len()).expect("answered, so a table");
         let place = weeks.place(week, second).expect("answered, so a reading");
         let last = before.place as u64;
         let step = weeks.step(last, place);
@@ -539,11 +421,6 @@ impl<'a> Run<'a> {
         coverage.mark(Mark::SixtyFourEntries, after.holdings.len() == 64);
         coverage.mark(Mark::AllSlotsTaken, after.holdings.len() == after.slots);
     }
-}
-
-/// Its lines have held.
-fn is_counted(table: &[u8]) -> bool {
-    table::shape_of(table.len()).is_some_and(|(layout, _)| layout.lines == Lines::Counted)
 }
 
 /// The table has the clock's other kind, and with the right one it is sound.
@@ -694,7 +571,7 @@ mod tests {
             let is_of_clock = |mark: Mark| {
                 let at = mark as usize;
                 at > Mark::StepZero as usize && at < Mark::NumberZeroPassedOver as usize
-                    || at > Mark::AllValuesCompared as usize && at < Mark::HeldUp as usize
+                    || at > Mark::AllValuesCompared as usize
                     || [Mark::OneSlot, Mark::SixtyFourSlots].contains(&mark)
             };
             let reached: Vec<Mark> = Mark::ALL
@@ -794,54 +671,6 @@ mod tests {
                 (tick(1, 1), &[WideLiveAcrossWrap]),
             ],
         );
-    }
-
-    /// Of the marks on moves, those that each step reaches: on a table of one slot.
-    #[test]
-    fn marks_of_moves() {
-        use Mark::*;
-        let to = |length| Step::Move { way: Way::ToHeld, length, seed: 1 };
-        let from = |length| Step::Move { way: Way::FromHeld, length, seed: 1 };
-        let edit = |at, byte| Step::Edit { at, bytes: vec![byte] };
-        let mut run = Run::new(&Oracle, &Oracle);
-        for (step, marks) in [
-            (Step::Buffer { length: 633, seed: 1 }, &[][..]),
-            (to(649), &[ToHeldSourceRefused]),
-            (from(617), &[]),
-            (make(0, 0), &[]),
-            // Nothing is held yet.
-            (to(649), &[]),
-            (to(649), &[ToHeldFormRefused]),
-            (to(665), &[ToHeldFormRefused]),
-            (setup(b"\x00"), &[DatagramAfterToHeld]),
-            (from(649), &[FromHeldLengthRefused]),
-            (edit(29, 9), &[]),
-            (from(633), &[FromHeldSourceRefused]),
-            (from(632), &[]),
-            (edit(29, 0x0D), &[]),
-            (from(633), &[MovedFromHeld]),
-            (setup(b"\x00"), &[DatagramAfterFromHeld]),
-            (from(633), &[FromHeldFormRefused]),
-            (to(653), &[ToHeldLengthRefused]),
-            (to(649), &[MovedToHeld]),
-            (make(0, 0), &[]),
-            (setup(b"\x00"), &[]),
-            (Step::Buffer { length: 637, seed: 1 }, &[]),
-            (make(0, 0), &[]),
-            (setup(b"\x00"), &[]),
-            (to(653), &[MovedToHeld, WideMovedToHeld]),
-            (from(637), &[MovedFromHeld, WideMovedFromHeld]),
-        ] {
-            run.coverage = Coverage::default();
-            assert_eq!(run.step(&step), Ok(()), "{step}");
-            let of_moves = (MovedToHeld as usize)..(DatagramOnBothForms as usize);
-            let reached = Mark::ALL.iter().map(|&(mark, _)| mark).filter(|&mark| {
-                of_moves.contains(&(mark as usize)) && run.coverage.marks[mark as usize] > 0
-            });
-            assert_eq!(reached.collect::<Vec<_>>(), marks, "{step}");
-            let moves: u64 = run.coverage.moves.as_flattened().iter().sum();
-            assert_eq!(moves, u64::from(matches!(step, Step::Move { .. })));
-        }
     }
 
     #[test]

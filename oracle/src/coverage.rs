@@ -1,8 +1,7 @@
 //! What a run has met: how many calls gave each number, how many options each
 //! error, and the places that a run must reach to be worth its name.
 
-use crate::calls::Way;
-use crate::generate::Layouts;
+use crate::generate::Widths;
 use crate::tally::Case;
 use crate::values::Values;
 use std::fmt;
@@ -84,43 +83,11 @@ pub enum Mark {
     WideKind1Refused,
     WideOneSlot,
     WideSixtyFourSlots,
-    CountedKindRefused,
-    HeldUp,
-    HeldDown,
-    HeldDownByTick,
-    HeldDownByAnother,
-    HeldDownInTwoLines,
-    HeldAtLimit,
-    HeldOfSixteenLines,
-    HeldInSixteenLines,
-    HeldOneSlot,
-    HeldSixtyFourSlots,
-    HeldThirteenBits,
-    HeldUnlistedAtLimit,
-    HeldAllReserved,
-    HeldOneMoreRefused,
-    HeldOneLessRefused,
-    HeldsExchangedRefused,
-    HeldUnusedRefused,
-    PlainKindRefused,
-    MovedToHeld,
-    MovedFromHeld,
-    WideMovedToHeld,
-    WideMovedFromHeld,
-    ToHeldSourceRefused,
-    FromHeldSourceRefused,
-    ToHeldLengthRefused,
-    FromHeldLengthRefused,
-    ToHeldFormRefused,
-    FromHeldFormRefused,
-    DatagramAfterToHeld,
-    DatagramAfterFromHeld,
-    DatagramOnBothForms,
 }
 
 impl Mark {
     /// What has a mark for weeks of thirteen bits too is marked above on tables for weeks of ten alone.
-    pub const ALL: [(Mark, &'static str); 106] = [
+    pub const ALL: [(Mark, &'static str); 74] = [
         (Mark::StepZero, "step of 0"),
         (Mark::StepLongest, "step of +309,657,599"),
         // Steps back with entries held.
@@ -205,49 +172,11 @@ impl Mark {
         (Mark::WideKind1Refused, "13 bits: kind 0x01 refused"),
         (Mark::WideOneSlot, "13 bits: n = 1"),
         (Mark::WideSixtyFourSlots, "13 bits: n = 64"),
-        // A line's kind is refused on a table that is sound but for such kinds.
-        (Mark::CountedKindRefused, "kind 0x0B or 0x0D refused"),
-        // Tables whose lines have held: what becomes of it in one call.
-        (Mark::HeldUp, "held: counted up"),
-        (Mark::HeldDown, "held: counted down by an end"),
-        (Mark::HeldDownByTick, "held: counted down by a tick"),
-        (Mark::HeldDownByAnother, "held: counted down, another asks"),
-        (Mark::HeldDownInTwoLines, "held: down in two lines at once"),
-        (Mark::HeldAtLimit, "held: at the limit"),
-        (Mark::HeldOfSixteenLines, "held: 16 roster lines"),
-        (Mark::HeldInSixteenLines, "held: over 0 in 16 lines"),
-        (Mark::HeldOneSlot, "held: n = 1"),
-        (Mark::HeldSixtyFourSlots, "held: n = 64"),
-        (Mark::HeldThirteenBits, "held: counted up, 13 bits"),
-        // Those who have no line.
-        (Mark::HeldUnlistedAtLimit, "held: unlisted at its limit"),
-        (Mark::HeldAllReserved, "held: unlisted, all is reserved"),
-        // Tables that are sound but for this.
-        (Mark::HeldOneMoreRefused, "held: one too many refused"),
-        (Mark::HeldOneLessRefused, "held: one too few refused"),
-        (Mark::HeldsExchangedRefused, "held: two exchanged refused"),
-        (Mark::HeldUnusedRefused, "held: in an unused line refused"),
-        (Mark::PlainKindRefused, "held: kind 0x02 or 0x03 refused"),
-        // Moves of tables with entries.
-        (Mark::MovedToHeld, "held: to_held done"),
-        (Mark::MovedFromHeld, "held: from_held done"),
-        (Mark::WideMovedToHeld, "held: to_held done, 13 bits"),
-        (Mark::WideMovedFromHeld, "held: from_held done, 13 bits"),
-        // Refused for the source alone, for the length alone, and for the form that it has already.
-        (Mark::ToHeldSourceRefused, "held: to_held, source unsound"),
-        (Mark::FromHeldSourceRefused, "held: from_held, source unsound"),
-        (Mark::ToHeldLengthRefused, "held: to_held, wrong length"),
-        (Mark::FromHeldLengthRefused, "held: from_held, wrong length"),
-        (Mark::ToHeldFormRefused, "held: to_held, held is there"),
-        (Mark::FromHeldFormRefused, "held: from_held, no held is there"),
-        (Mark::DatagramAfterToHeld, "held: datagram after to_held"),
-        (Mark::DatagramAfterFromHeld, "held: datagram after from_held"),
-        (Mark::DatagramOnBothForms, "held: datagram on both forms"),
     ];
 
-    /// A mark that lists on tables with plain lines alone cannot reach.
-    fn is_of_held(self) -> bool {
-        self as usize >= Mark::HeldUp as usize
+    /// A mark that lists on tables with weeks of ten bits cannot reach.
+    fn is_wide(self) -> bool {
+        self as usize >= Mark::WideStepLongest as usize
     }
 }
 
@@ -257,8 +186,6 @@ pub struct Coverage {
     pub makings: [u64; 10],
     pub ticks: [u64; 10],
     pub datagrams: [u64; 10],
-    /// Of either way.
-    pub moves: [[u64; 10]; 2],
     pub errors: [u64; 7],
     pub cases: [u64; Case::ALL.len()],
     pub marks: [u64; Mark::ALL.len()],
@@ -275,7 +202,6 @@ impl Default for Coverage {
             makings: [0; 10],
             ticks: [0; 10],
             datagrams: [0; 10],
-            moves: [[0; 10]; 2],
             errors: [0; 7],
             cases: [0; Case::ALL.len()],
             marks: [0; Mark::ALL.len()],
@@ -291,11 +217,6 @@ impl Coverage {
         self.errors[usize::from(case.error())] += 1;
     }
 
-    /// A move, and the number that it gave.
-    pub fn moved(&mut self, way: Way, number: u32) {
-        self.moves[way as usize][number as usize] += 1;
-    }
-
     pub fn mark(&mut self, mark: Mark, met: bool) {
         self.marks[mark as usize] += u64::from(met);
     }
@@ -306,21 +227,17 @@ impl Coverage {
     }
 
     /// What a run of such lists has never met of what it must meet.
-    pub fn missing(&self, layouts: Layouts) -> Vec<String> {
+    pub fn missing(&self, widths: Widths) -> Vec<String> {
         let mut missing = Vec::new();
         for number in 0..10 {
             if self.makings[number] + self.ticks[number] + self.datagrams[number] == 0 {
                 missing.push(format!("number {number}"));
             }
         }
-        let [to_held, from_held] = &self.moves;
-        let moved: &[usize] = if layouts == Layouts::All { &[0, 1] } else { &[] };
         for (calls, name, given) in [
             (&self.makings, "making", &[0, 1, 2, 9][..]),
             (&self.ticks, "tick", &[0, 1, 2]),
             (&self.datagrams, "datagram", &[0, 1, 2, 3, 4, 5, 6, 7, 8]),
-            (to_held, "to_held", moved),
-            (from_held, "from_held", moved),
         ] {
             for &number in given.iter().filter(|&&number| calls[number] == 0) {
                 missing.push(format!("{name} with number {number}"));
@@ -337,7 +254,7 @@ impl Coverage {
             }
         }
         for (mark, name) in Mark::ALL {
-            let must = layouts == Layouts::All || !mark.is_of_held();
+            let must = widths == Widths::Both || !mark.is_wide();
             if must && self.marks[mark as usize] == 0 {
                 missing.push(name.into());
             }
@@ -351,14 +268,13 @@ impl Coverage {
 
 impl fmt::Display for Coverage {
     fn fmt(&self, to: &mut fmt::Formatter) -> fmt::Result {
-        writeln!(to, "number      making        tick    datagram     to_held   from_held")?;
-        let [to_held, from_held] = &self.moves;
+        writeln!(to, "number      making        tick    datagram")?;
         for number in 0..10 {
-            write!(to, "{number:6}")?;
-            for calls in [&self.makings, &self.ticks, &self.datagrams, to_held, from_held] {
-                write!(to, "{:12}", calls[number])?;
-            }
-            writeln!(to)?;
+            writeln!(
+                to,
+                "{number:6}{:12}{:12}{:12}",
+                self.makings[number], self.ticks[number], self.datagrams[number]
+            )?;
         }
         writeln!(to, "options by error:")?;
         for (error, count) in self.errors.iter().enumerate() {
@@ -396,7 +312,6 @@ mod tests {
             makings: [1; 10],
             ticks: [1; 10],
             datagrams: [1; 10],
-            moves: [[1; 10]; 2],
             errors: [1; 7],
             cases: [1; Case::ALL.len()],
             marks: [1; Mark::ALL.len()],
@@ -413,7 +328,7 @@ mod tests {
             met.marks[mark as usize] = 0;
         }
         assert_eq!(
-            met.missing(Layouts::All),
+            met.missing(Widths::Both),
             [
                 "all 256 values in names stored",
                 "all 256 values in names compared",
@@ -427,30 +342,16 @@ mod tests {
     #[test]
     fn a_mark_that_was_missed_is_named() {
         let mut met = met();
-        assert_eq!(met.missing(Layouts::All), Vec::<String>::new());
+        assert_eq!(met.missing(Widths::Both), Vec::<String>::new());
         for (mark, name) in Mark::ALL {
             met.marks[mark as usize] = 0;
-            assert_eq!(met.missing(Layouts::All), [name]);
+            assert_eq!(met.missing(Widths::Both), [name]);
             met.mark(mark, false);
-            assert_eq!(met.missing(Layouts::All), [name]);
-            // Without tables whose lines have held their marks are not missed.
-            let of_held = name.starts_with("held: ");
-            assert_eq!(met.missing(Layouts::Plain).is_empty(), of_held, "{name}");
+            assert_eq!(met.missing(Widths::Both), [name]);
+            // Without tables for weeks of thirteen bits their marks are not missed.
+            let wide = name.starts_with("13 bits: ");
+            assert_eq!(met.missing(Widths::TenBits).is_empty(), wide, "{name}");
             met.mark(mark, true);
-        }
-    }
-
-    #[test]
-    fn a_move_that_was_missed_is_named() {
-        for (way, name) in Way::ALL.into_iter().zip(["to_held", "from_held"]) {
-            for number in 0..2 {
-                let mut met = met();
-                met.moves[way as usize][number as usize] = 0;
-                assert_eq!(met.missing(Layouts::All), [format!("{name} with number {number}")]);
-                assert_eq!(met.missing(Layouts::Plain), Vec::<String>::new());
-                met.moved(way, number);
-                assert_eq!(met.missing(Layouts::All), Vec::<String>::new());
-            }
         }
     }
 

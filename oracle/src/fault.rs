@@ -35,12 +35,8 @@ faults! {
     PlaceHighBytes
     // Refusal 1: the roster's records.
     LineKind
-    // That of a table with the lines' other form.
-    LineKindOfOther
     LineOrder
     UnusedLine
-    // Held in an unused line.
-    UnusedHeld
     // Refusals 1 and 9: the roster rules.
     SameListed
     ShareOverLimit
@@ -62,8 +58,6 @@ faults! {
     SameHolding
     OverLimit
     Reserve
-    // Held in a listed line that is not the count over the slots.
-    Held
     // Refusal 3, but for a datagram under 12 bytes.
     Long
     // Refusal 4, but for more than eight questions.

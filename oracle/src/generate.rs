@@ -1,14 +1,13 @@
-//! Random lists of makings, ticks and datagrams on one table, and moves of it.
+//! Random lists of makings, ticks and datagrams on one table.
 
 mod damage;
 mod message;
 mod world;
 
-use crate::calls::Way;
 use crate::clock::Weeks;
 use crate::random::Random;
 use crate::script::{Datagram, Step};
-use crate::table::{self, Layout, Lines, LONGEST};
+use crate::table;
 use crate::tally::{Holding, Tally};
 use crate::told::ToldLeases;
 use world::World;
@@ -20,11 +19,11 @@ type Reading = (u32, u32);
 
 /// The tables that lists are on.
 #[derive(Clone, Copy, PartialEq, Eq, Debug)]
-pub enum Layouts {
-    /// Of all layouts, as each list draws it; tables are moved from one form of lines to the other.
-    All,
-    /// With plain lines; no buffer has the length of a table with others, and no table is moved.
-    Plain,
+pub enum Widths {
+    /// With weeks of ten bits or of thirteen, as each list draws it.
+    Both,
+    /// With weeks of ten bits; no buffer has the length of a table with others.
+    TenBits,
 }
 
 /// What a list does to its table besides calling.
@@ -53,10 +52,9 @@ pub struct List {
 }
 
 impl List {
-    /// A list that is carried out on both forms of its table, or on one alone.
-    pub fn new(seed: u64, layouts: Layouts, both_forms: bool) -> List {
+    pub fn new(seed: u64, widths: Widths) -> List {
         let mut random = Random::new(seed);
-        let world = World::new(&mut random, layouts);
+        let world = World::new(&mut random, widths);
         let kind = match random.below(100) {
             0..58 => Kind::Undamaged,
             58..76 => Kind::Edited,
@@ -69,41 +67,37 @@ impl List {
         };
         let (ahead, readings) = (Vec::new(), Vec::new());
         let mut list = List { random, world, kind, steps_left, ahead, readings };
-        list.begin(both_forms);
+        list.begin();
         list
     }
 
-    fn begin(&mut self, both_forms: bool) {
+    fn begin(&mut self) {
         let random = &mut self.random;
         let mut length = self.world.length();
         if self.kind == Kind::Unmade && random.percent(75) {
-            let heads = Layout::ALL.map(Layout::head);
-            length = match random.below(16) {
-                0 => random.below(334),
-                1..6 => *random.pick(&heads),
-                6 => random.pick(&heads) + 320 * 65,
+            length = match random.below(14) {
+                0 => random.below(318),
+                1..4 => 313,
+                4..6 => 317,
+                6 => *random.pick(&[313 + 320 * 65, 317 + 320 * 65]),
                 7 => length + 1,
                 8 => length - 1,
-                // Between the lengths of one n.
-                9..11 => 314 + 320 * random.pick(&[0, 1, self.world.slots, 64]) + random.below(19),
-                11 => 0,
-                12 => LONGEST + 1 + random.below(299),
+                // Between the two lengths of one n.
+                9 => 314 + 320 * random.pick(&[0, 1, self.world.slots, 64]) + random.below(3),
+                10 => 0,
+                11 => 317 + 320 * 64 + 1 + random.below(315),
                 _ => random.below(25_000),
             };
-            if self.world.layouts == Layouts::Plain && is_counted(length) {
+            if self.world.widths == Widths::TenBits && is_wide(length) {
                 length += 1;
             }
         }
         self.ahead.push(Step::Buffer { length, seed: random.number() });
-        if both_forms {
-            self.ahead.push(Step::Beside { seed: random.number() });
-        }
         if self.kind == Kind::Unmade {
-            self.ahead.reverse();
             return;
         }
         while random.percent(25) {
-            let weeks = self.world.layout.weeks;
+            let weeks = self.world.weeks;
             let last = (weeks.count() - 1, 604_799);
             let reading = if random.percent(60) { wrong_reading(random, weeks) } else { last };
             let roster = if random.percent(60) {
@@ -114,7 +108,7 @@ impl List {
             self.ahead.push(Step::Make { week: reading.0, second: reading.1, roster });
         }
         let cycle = self.world.cycle();
-        let wide = self.world.layout.weeks == Weeks::Thirteen;
+        let wide = self.world.weeks == Weeks::Thirteen;
         let place = match random.below(6) {
             0 => cycle - 1,
             1 => cycle - 1 - random.between(0, 300),
@@ -161,27 +155,17 @@ impl List {
             }
             Kind::Damaged if sound && random.percent(40) => {
                 let step = damage::damage(random, &self.world, table);
-                let mut calls = Vec::new();
-                let length = match &step {
-                    Step::Table { bytes } => bytes.len(),
-                    _ => table.len(),
-                };
-                for _ in 0..*random.pick(&[1, 1, 2]) {
-                    calls.push(match self.random.below(100) {
-                        0..12 if self.moves() => self.move_table(length),
-                        0..45 => self.tick(tally),
-                        _ => self.serve(tally, told),
-                    });
-                }
-                // A move may be answered all the same, and then the damaged bytes lie elsewhere.
-                let moved = calls.iter().any(|call| matches!(call, Step::Move { .. }));
                 self.ahead.push(match &step {
-                    Step::Edit { at, bytes } if !moved => {
+                    Step::Edit { at, bytes } => {
                         Step::Edit { at: *at, bytes: table[*at..*at + bytes.len()].to_vec() }
                     }
                     _ => Step::Table { bytes: table.to_vec() },
                 });
-                self.ahead.extend(calls);
+                for _ in 0..*random.pick(&[1, 1, 2]) {
+                    let ticks = self.random.percent(40);
+                    let call = if ticks { self.tick(tally) } else { self.serve(tally, told) };
+                    self.ahead.push(call);
+                }
                 return Some(step);
             }
             _ => {}
@@ -191,47 +175,9 @@ impl List {
             // A table that is to fill is seldom made anew.
             0..3 if !self.world.filling || self.random.percent(30) => self.make(tally),
             3..18 => self.tick(tally),
-            18..22 if self.moves() => self.move_table(table.len()),
             _ if !sound && choice < 60 => self.make(tally),
             _ => self.serve(tally, told),
         })
-    }
-
-    fn moves(&self) -> bool {
-        self.world.layouts == Layouts::All
-    }
-
-    /// A move of a table of this length: mostly out of the form that it has, into a buffer that fits.
-    fn move_table(&mut self, length: usize) -> Step {
-        let random = &mut self.random;
-        let way = match table::shape_of(length) {
-            Some((layout, _)) if random.percent(80) => Way::out_of(layout.lines),
-            Some((layout, _)) => Way::out_of(layout.lines.other()),
-            None => *random.pick(&Way::ALL),
-        };
-        let right = match way {
-            Way::ToHeld => length + 16,
-            Way::FromHeld => length.saturating_sub(16),
-        };
-        let more = match random.below(20) {
-            0..13 => 0,
-            13..15 => return self.move_to(way, length),
-            15..17 => *random.pick(&[-1, 1]),
-            // As long as a table with the other weeks.
-            17 => *random.pick(&[-4, 4]),
-            18 => *random.pick(&[-320, 320, -32, 32]),
-            _ => {
-                let any = random.below(25_000);
-                let lengths = [0, 649, LONGEST, LONGEST - 16, any];
-                let length = *random.pick(&lengths);
-                return self.move_to(way, length);
-            }
-        };
-        self.move_to(way, right.saturating_add_signed(more))
-    }
-
-    fn move_to(&mut self, way: Way, length: usize) -> Step {
-        Step::Move { way, length, seed: self.random.number() }
     }
 
     fn make(&mut self, tally: Option<&Tally>) -> Step {
@@ -274,7 +220,7 @@ impl List {
             return reading;
         }
         let random = &mut self.random;
-        let (weeks, cycle) = (self.world.layout.weeks, self.world.cycle());
+        let (weeks, cycle) = (self.world.weeks, self.world.cycle());
         let half = cycle / 2;
         let place = tally.map_or(0, |tally| tally.place);
         let at = |step: i64| reading_of((place + step).rem_euclid(cycle));
@@ -314,9 +260,9 @@ impl List {
     }
 }
 
-/// A buffer of this length is a table whose lines have held.
-fn is_counted(length: usize) -> bool {
-    table::shape_of(length).is_some_and(|(layout, _)| layout.lines == Lines::Counted)
+/// A buffer of this length is a table for weeks of thirteen bits.
+fn is_wide(length: usize) -> bool {
+    matches!(table::shape_of(length), Some((Weeks::Thirteen, _)))
 }
 
 /// About half a cycle; of thirteen bits also what 31 bits do not hold, and a cycle of ten bits.
@@ -393,8 +339,8 @@ mod tests {
     use super::*;
 
     /// The lengths of the buffers that lists begin with.
-    fn lengths(layouts: Layouts) -> Vec<usize> {
-        let length = |seed| match List::new(seed, layouts, false).ahead.pop() {
+    fn lengths(widths: Widths) -> Vec<usize> {
+        let length = |seed| match List::new(seed, widths).ahead.pop() {
             Some(Step::Buffer { length, .. }) => length,
             _ => panic!("a list begins with its buffer"),
         };
@@ -402,67 +348,21 @@ mod tests {
     }
 
     #[test]
-    fn lists_are_on_tables_of_all_layouts_or_of_plain_lines_alone() {
-        let all = lengths(Layouts::All);
-        for wrong in [313, 317, 329, 333] {
-            assert!(all.contains(&wrong), "{wrong}");
+    fn lists_are_on_tables_of_both_widths_or_of_ten_bits_alone() {
+        let both = lengths(Widths::Both);
+        for wrong in [313, 314, 315, 316, 317, 634, 635, 636, 21_113, 21_117] {
+            assert!(both.contains(&wrong), "{wrong}");
         }
-        for between in [314..317, 318..329, 330..333, 634..637, 638..649, 650..653] {
-            assert!(all.iter().any(|length| between.contains(length)), "{between:?}");
+        for slots in [1, 2, 63, 64] {
+            assert!(both.contains(&(313 + 320 * slots)));
+            assert!(both.contains(&(317 + 320 * slots)));
         }
-        let plain = lengths(Layouts::Plain);
-        for (layout, lists) in Layout::ALL.map(|layout| [(layout, &all), (layout, &plain)]).concat()
-        {
-            let of = |length: &&usize| table::shape_of(**length).is_some_and(|of| of.0 == layout);
-            let count = lists.iter().filter(of).count();
-            if layout.lines == Lines::Counted && *lists == plain {
-                assert_eq!(count, 0);
-                continue;
-            }
-            // As many of one layout as of another, or not far from it.
-            let layouts = if *lists == plain { 2 } else { 4 };
-            assert!((17_000..23_000).contains(&(count * layouts)), "{layout:?}: {count}");
-            for slots in [1, 2, 63, 64] {
-                assert!(lists.contains(&layout.length(slots)));
-            }
-            assert!(lists.contains(&layout.length(65)) || *lists == plain);
-        }
-    }
-
-    #[test]
-    fn lists_on_both_forms_say_so() {
-        for seed in 0..100 {
-            let [mut both, mut one] = [true, false].map(|both| List::new(seed, Layouts::All, both));
-            let first = both.ahead.pop();
-            assert!(matches!(first, Some(Step::Buffer { .. })));
-            assert_eq!(first, one.ahead.pop());
-            assert!(matches!(both.ahead.pop(), Some(Step::Beside { .. })));
-            assert!(!one.ahead.iter().any(|step| matches!(step, Step::Beside { .. })));
-        }
-    }
-
-    /// Each is refused for its length, or has the right one.
-    #[test]
-    fn moves_are_into_buffers_of_any_length() {
-        let mut list = List::new(1, Layouts::All, false);
-        for (layout, slots) in Layout::ALL.map(|layout| (layout, 9)) {
-            let length = layout.length(slots);
-            let moves: Vec<_> = (0..2_000)
-                .map(|_| match list.move_table(length) {
-                    Step::Move { way, length, .. } => (way, length),
-                    _ => panic!("a move"),
-                })
-                .collect();
-            let out = Way::out_of(layout.lines);
-            let right = layout.other_form().length(slots);
-            for wrong in [length, right - 1, right + 1, right - 4, right + 4, right + 320, 0] {
-                assert!(moves.contains(&(out, wrong)), "{wrong}");
-            }
-            let right = moves.iter().filter(|&&to| to == (out, right)).count();
-            assert!((800..1_200).contains(&right), "{right}");
-            // The form that is there already.
-            let back = Way::out_of(layout.lines.other());
-            assert!(moves.contains(&(back, length)));
-        }
+        let of = |weeks| {
+            let shapes = both.iter().filter_map(|&length| table::shape_of(length));
+            shapes.filter(|shape| shape.0 == weeks).count()
+        };
+        let (narrow, wide) = (of(Weeks::Ten), of(Weeks::Thirteen));
+        assert!(wide <= narrow && narrow < 2 * wide, "{wide} and {narrow}");
+        assert!(!lengths(Widths::TenBits).into_iter().any(is_wide));
     }
 }

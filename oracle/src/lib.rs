@@ -15,11 +15,9 @@ pub mod table;
 
 pub mod tally;
 
-pub mod beside;
 pub mod compare;
 pub mod coverage;
 pub mod generate;
-pub mod held;
 pub mod pairs;
 pub mod random;
 pub mod runs;
@@ -35,4 +33,4 @@ mod moves;
 #[cfg(test)]
 mod spans;
 
-pub use calls::{from_held, make, serve, tick, to_held, Served, Ticked};
+pub use calls::{make, serve, tick, Served, Ticked};

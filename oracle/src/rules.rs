@@ -6,7 +6,7 @@ use crate::clock::{Clock, Weeks};
 use crate::fault::Fault;
 use crate::name::{self, Compared};
 use crate::query::{LlqNumber, LlqOption, Question, Sender};
-use crate::table::{self, Entry, Lines, Table};
+use crate::table::{self, Entry, Table};
 
 pub const SHORTEST_LEASE: u32 = 60;
 pub const LONGEST_LEASE: u32 = 7_200;
@@ -35,16 +35,6 @@ pub struct Allowance {
     pub limit: u32,
 }
 
-/// What becomes of an entry in a call.
-#[derive(Clone, Copy, PartialEq, Eq, Debug)]
-pub enum Change {
-    Granted,
-    Established,
-    Renewed,
-    Ended,
-    RanOut,
-}
-
 pub trait Rules {
     /// Whether a fault, if found, refuses the call.
     fn faulty(_fault: Fault, found: bool) -> bool {
@@ -54,11 +44,6 @@ pub trait Rules {
     /// The kind of the clock record that a making writes.
     fn clock_kind(weeks: Weeks) -> u8 {
         table::clock_kind(weeks)
-    }
-
-    /// The kinds of the listed and the unused lines that a making writes.
-    fn line_kinds(lines: Lines) -> (u8, u8) {
-        (lines.listed_kind(), lines.unused_kind())
     }
 
     /// The place of a reading, or nothing if its week or second is too large.
@@ -136,30 +121,6 @@ pub trait Rules {
         entry.address() == sender.address
     }
 
-    /// How many slots the sender's address holds entries in.
-    fn held(table: &Table, sender: Sender) -> u32 {
-        table.entries().filter(|&entry| Self::holds(entry, sender)).count() as u32
-    }
-
-    /// Held of a line: how many slots hold an entry of its address, pending or established, over all
-    /// ports.
-    fn held_by(table: &Table, address: u128) -> u32 {
-        table.entries().filter(|entry| entry.address() == address).count() as u32
-    }
-
-    /// Held of a line after one of its address's entries changed, with what it was before: the count
-    /// over the slots as they are now, whatever the change and whichever the port.
-    fn held_after(table: &Table, _change: Change, sender: Sender, _before: u32) -> u32 {
-        Self::held_by(table, sender.address)
-    }
-
-    /// Every listed line of a counted table says what its address holds.
-    fn helds_are_right(table: &Table) -> bool {
-        table
-            .listed()
-            .all(|line| line.held().is_none_or(|held| held == Self::held_by(table, line.address())))
-    }
-
     /// Share and limit of an address.
     fn allowance(table: &Table, address: u128) -> Allowance {
         table
@@ -214,12 +175,9 @@ pub struct Law;
 
 impl Rules for Law {}
 
-/// Held moves with the slots: an entry of this sender has changed.
-pub fn recount<R: Rules>(table: &mut Table, change: Change, sender: Sender) {
-    if let Some(before) = table.held(sender.address) {
-        let held = R::held_after(table, change, sender, before);
-        table.set_held(sender.address, held);
-    }
+/// Slots the address holds entries in.
+pub fn held<R: Rules>(table: &Table, sender: Sender) -> u32 {
+    table.entries().filter(|&entry| R::holds(entry, sender)).count() as u32
 }
 
 /// The sum, over roster lines, of share less held where that is positive.

@@ -2,7 +2,7 @@
 
 use crate::compare::{self, Run};
 use crate::coverage::Coverage;
-use crate::generate::{Layouts, List};
+use crate::generate::{List, Widths};
 use crate::random::Random;
 use crate::script::Step;
 use crate::server::Server;
@@ -47,24 +47,18 @@ impl Trace {
     }
 }
 
-/// One list of so many is carried out on both forms of its table, side by side.
-const BOTH_FORMS: usize = 10;
-
 pub fn random_lists(
     reference: &dyn Server,
     tested: &dyn Server,
-    layouts: Layouts,
+    widths: Widths,
     seed: u64,
     calls: u64,
     mut trace: Option<Trace>,
 ) -> (Coverage, Option<Failure>) {
     let mut seeds = Random::new(seed);
     let mut run = Run::new(reference, tested);
-    let mut lists = 0;
     while run.coverage.calls < calls {
-        lists += 1;
-        let both_forms = layouts == Layouts::All && lists % BOTH_FORMS == 0;
-        let mut list = List::new(seeds.number(), layouts, both_forms);
+        let mut list = List::new(seeds.number(), widths);
         let mut steps = Vec::new();
         if let Some(trace) = &mut trace {
             trace.restart().expect("the trace can be written");

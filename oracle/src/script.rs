@@ -11,18 +11,12 @@
 //! make WEEK SECOND ROSTER
 //! tick WEEK SECOND
 //! serve WEEK SECOND HIGH LOW PORT RANDOM FILL LENGTH DATAGRAM
-//! to_held LENGTH SEED       a move into a buffer of this length, its bytes random by the seed
-//! from_held LENGTH SEED
-//! beside SEED               from here on the table's other form is carried beside it; as long as
-//!                           nothing is made, its bytes are random by the seed
 //! ```
 //!
-//! A `serve` lends a reply buffer of LENGTH bytes, each of them FILL. After an
-//! answered move its target is the table buffer. The tally is read anew from
-//! the table after `buffer`, `table` and `edit`; otherwise it goes by the calls
-//! alone. What is carried beside ends with the next `buffer`.
+//! A `serve` lends a reply buffer of LENGTH bytes, each of them FILL. The tally
+//! is read anew from the table after `buffer`, `table` and `edit`; otherwise
+//! it goes by the calls alone.
 
-use crate::calls::Way;
 use crate::random::Random;
 use std::fmt::{self, Write};
 
@@ -47,17 +41,15 @@ pub enum Step {
     Make { week: u32, second: u32, roster: Vec<u8> },
     Tick { week: u32, second: u32 },
     Serve(Datagram),
-    Move { way: Way, length: usize, seed: u64 },
-    Beside { seed: u64 },
 }
 
 impl Step {
     pub fn is_call(&self) -> bool {
-        matches!(self, Step::Make { .. } | Step::Tick { .. } | Step::Serve(_) | Step::Move { .. })
+        matches!(self, Step::Make { .. } | Step::Tick { .. } | Step::Serve(_))
     }
 }
 
-/// The bytes of a `buffer` line, and those of a move's target before it.
+/// The bytes of a `buffer` line.
 pub fn buffer(length: usize, seed: u64) -> Vec<u8> {
     Random::new(seed).bytes(length)
 }
@@ -96,14 +88,6 @@ impl fmt::Display for Step {
                 sent.reply_length,
                 hex(&sent.bytes)
             ),
-            Step::Move { way, length, seed } => {
-                let call = match way {
-                    Way::ToHeld => "to_held",
-                    Way::FromHeld => "from_held",
-                };
-                write!(to, "{call} {length:x} {seed:x}")
-            }
-            Step::Beside { seed } => write!(to, "beside {seed:x}"),
         }
     }
 }
@@ -158,13 +142,6 @@ fn line(text: &str) -> Result<Step, String> {
             reply_length: fields.number()?,
             bytes: fields.bytes()?,
         }),
-        "to_held" => {
-            Step::Move { way: Way::ToHeld, length: fields.number()?, seed: fields.number()? }
-        }
-        "from_held" => {
-            Step::Move { way: Way::FromHeld, length: fields.number()?, seed: fields.number()? }
-        }
-        "beside" => Step::Beside { seed: fields.number()? },
         other => return Err(format!("no such step: {other}")),
     };
     match fields.0.next() {
@@ -205,27 +182,15 @@ mod tests {
                 reply_length: 1_472,
                 bytes: vec![0x12, 0x34],
             }),
-            Step::Move { way: Way::ToHeld, length: 649, seed: 9 },
-            Step::Move { way: Way::FromHeld, length: 0, seed: u64::MAX },
-            Step::Beside { seed: 7 },
         ];
         let text: String = steps.iter().map(|step| format!("{step}\n")).collect();
-        assert!(text.contains("serve 1 2 3 4 ffff 5 ee 5c0 1234\nto_held 289 9\n"));
+        assert!(text.contains("serve 1 2 3 4 ffff 5 ee 5c0 1234\n"));
         assert_eq!(read(&format!("# a list\n\n{text}")), Ok(steps.to_vec()));
     }
 
     #[test]
     fn wrong_lines_are_named() {
-        for wrong in [
-            "stop",
-            "tick 1",
-            "tick 1 2 3",
-            "tick 1 100000000",
-            "table 123",
-            "table zz",
-            "to_held 289",
-            "beside",
-        ] {
+        for wrong in ["stop", "tick 1", "tick 1 2 3", "tick 1 100000000", "table 123", "table zz"] {
             assert!(read(&format!("tick 1 2\n{wrong}")).unwrap_err().starts_with("line 2: "));
         }
     }

@@ -1,7 +1,7 @@
 //! Serving the options of a query in order, and writing the reply.
 
 use crate::query::*;
-use crate::rules::{self, error, opcode, Change, Rules, RETRY};
+use crate::rules::{self, error, opcode, Rules, RETRY};
 use crate::table::Table;
 
 /// What an option of the reply says besides its version and opcode.
@@ -52,7 +52,7 @@ fn setup<R: Rules>(
         let entry = table.entry(slot);
         return Said::granted(entry.number(), R::setup_tells(entry, table.clock().count));
     }
-    let held = R::held(table, sender);
+    let held = rules::held::<R>(table, sender);
     let allowed = R::allowance(table, sender.address);
     let full = R::full(held, allowed, table.free() as i32, rules::reserve::<R>(table));
     let Some(slot) = R::slot(table).filter(|_| !full) else {
@@ -62,7 +62,6 @@ fn setup<R: Rules>(
     let number = R::number(random, |number| table.entries().any(|entry| entry.number() == number));
     let stamp = table.clock().count;
     table.fill(slot, sender, question, R::fold, number, lease, stamp);
-    rules::recount::<R>(table, Change::Granted, sender);
     Said::granted(number, lease)
 }
 
@@ -81,7 +80,6 @@ fn response<R: Rules>(
         return Said::failed(error::NO_SUCH_LLQ, LlqNumber::NONE);
     };
     table.establish(slot);
-    rules::recount::<R>(table, Change::Established, sender);
     let entry = table.entry(slot);
     Said::granted(entry.number(), R::response_tells(entry, count, lease))
 }
@@ -98,13 +96,11 @@ fn refresh<R: Rules>(
     };
     if asked == 0 {
         table.release(slot);
-        rules::recount::<R>(table, Change::Ended, sender);
         return Said::granted(number, 0);
     }
     let lease = R::granted(asked);
     let stamp = table.clock().count;
     table.renew(slot, lease, stamp);
-    rules::recount::<R>(table, Change::Renewed, sender);
     Said::granted(number, lease)
 }
 

@@ -1,7 +1,6 @@
-//! A program that answers the calls: the oracle, the linked library, a wrong variant.
+//! A program that answers the three calls: the oracle, the linked library, a wrong variant.
 
-use crate::calls::{self, Served, Ticked, Way};
-use crate::fault;
+use crate::calls::{self, Served, Ticked};
 
 pub trait Server {
     fn make(&self, week: u32, second: u32, table: &mut [u8], roster: &[u8]) -> u32;
@@ -21,11 +20,6 @@ pub trait Server {
         table: &mut [u8],
         reply: &mut [u8],
     ) -> Served;
-
-    /// Moves a table into another buffer. A program from before the moves has none to carry out.
-    fn move_table(&self, _way: Way, _source: &[u8], _table: &mut [u8]) -> u32 {
-        fault::UNSOUND
-    }
 }
 
 pub struct Oracle;
@@ -53,13 +47,6 @@ impl Server for Oracle {
     ) -> Served {
         calls::serve(week, second, address_high, address_low, port, random, datagram, table, reply)
     }
-
-    fn move_table(&self, way: Way, source: &[u8], table: &mut [u8]) -> u32 {
-        match way {
-            Way::ToHeld => calls::to_held(source, table),
-            Way::FromHeld => calls::from_held(source, table),
-        }
-    }
 }
 
 #[cfg(feature = "before")]
@@ -86,12 +73,9 @@ mod linked {
         freed: u32,
     }
 
-    /// A server by the names of its calls; an earlier one has no moves.
+    /// A server by the names of its three calls.
     macro_rules! server {
-        (
-            $(#[$about:meta])*
-            $server:ident: $make:ident, $tick:ident, $serve:ident $(, $to_held:ident, $from_held:ident)?
-        ) => {
+        ($(#[$about:meta])* $server:ident: $make:ident, $tick:ident, $serve:ident) => {
             extern "C" {
                 fn $make(
                     week: u32,
@@ -118,22 +102,6 @@ mod linked {
                     reply: *mut u8,
                     reply_len: usize,
                 ) -> LlqServed;
-
-                $(
-                    fn $to_held(
-                        source: *const u8,
-                        source_len: usize,
-                        table: *mut u8,
-                        table_len: usize,
-                    ) -> u32;
-
-                    fn $from_held(
-                        source: *const u8,
-                        source_len: usize,
-                        table: *mut u8,
-                        table_len: usize,
-                    ) -> u32;
-                )?
             }
 
             $(#[$about])*
@@ -189,36 +157,24 @@ mod linked {
                     };
                     Served { number: served.number, length: served.length }
                 }
-
-                $(
-                    fn move_table(&self, way: Way, source: &[u8], table: &mut [u8]) -> u32 {
-                        let call = match way {
-                            Way::ToHeld => $to_held,
-                            Way::FromHeld => $from_held,
-                        };
-                        unsafe {
-                            call(source.as_ptr(), source.len(), table.as_mut_ptr(), table.len())
-                        }
-                    }
-                )?
             }
         };
     }
 
     server! {
         /// The library under test.
-        Linked: llq_make, llq_tick, llq_serve, llq_to_held, llq_from_held
+        Linked: llq_make, llq_tick, llq_serve
     }
 
     #[cfg(feature = "bench")]
     server! {
         /// The plain C of bench/plain.c, its calls renamed.
-        Plain: plain_make, plain_tick, plain_serve, plain_to_held, plain_from_held
+        Plain: plain_make, plain_tick, plain_serve
     }
 
     #[cfg(feature = "before")]
     server! {
-        /// An earlier archive, its calls renamed: one from before the moves.
+        /// An earlier archive, its calls renamed.
         Before: before_make, before_tick, before_serve
     }
 }

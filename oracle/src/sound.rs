@@ -17,9 +17,8 @@ fn all_zero(bytes: &[u8]) -> bool {
 pub fn is_sound<R: Rules>(table: &Table) -> bool {
     let clock = table.clock();
     clock_is_sound::<R>(table.clock[0], clock)
-        && roster_is_sound::<R>(table)
+        && roster_is_sound::<R>(table.roster, table.slots.len())
         && slots_are_sound::<R>(table, clock.count)
-        && !R::faulty(Fault::Held, !R::helds_are_right(table))
 }
 
 /// The kind that goes with the length, and a place under the cycle: if it has eight bytes, the three
@@ -35,39 +34,30 @@ fn clock_is_sound<R: Rules>(kind: u8, clock: Clock) -> bool {
         || R::faulty(Fault::PlaceHighBytes, clock.place >> 40 != 0))
 }
 
-/// Sixteen lines of the form that goes with the length, listed ones first, unused ones all zero.
-fn roster_is_sound<R: Rules>(table: &Table) -> bool {
-    let (lines, other) = (table.layout.lines, table.layout.lines.other());
-    let listed = table.listed();
-    for line in table.lines().skip(listed.clone().count()) {
-        let kind = line.kind();
-        let unused = kind == lines.unused_kind();
-        let of_other = kind == other.listed_kind() || kind == other.unused_kind();
-        let fault = match kind {
-            _ if unused => Fault::UnusedLine,
-            _ if of_other => Fault::LineKindOfOther,
-            _ if kind == lines.listed_kind() => Fault::LineOrder,
+/// Sixteen lines, listed ones first, unused ones all zero.
+fn roster_is_sound<R: Rules>(roster: &[LineRecord], slots: usize) -> bool {
+    let listed = roster.iter().take_while(|line| line[0] == LISTED).count();
+    let (listed, unused) = roster.split_at(listed);
+    for line in unused {
+        let fault = match line[0] {
+            UNUSED => Fault::UnusedLine,
+            LISTED => Fault::LineOrder,
             _ => Fault::LineKind,
         };
-        if R::faulty(fault, !unused || !all_zero(&line.0[1..ROSTER_RECORD]))
-            || R::faulty(Fault::UnusedHeld, unused && line.held().is_some_and(|held| held != 0))
-        {
+        if R::faulty(fault, *line != UNUSED_LINE) {
             return false;
         }
     }
-    keeps_roster_rules::<R>(listed, table.slots.len())
+    keeps_roster_rules::<R>(listed, slots)
 }
 
 /// Listed addresses differ, 0 <= share <= limit, limit is 1 to 64,
 /// shares sum to at most the number of slots.
-pub fn keeps_roster_rules<'a, R: Rules>(
-    lines: impl Iterator<Item = Line<'a>> + Clone,
-    slots: usize,
-) -> bool {
+pub fn keeps_roster_rules<R: Rules>(lines: &[LineRecord], slots: usize) -> bool {
     let mut shares = 0;
-    for (at, line) in lines.clone().enumerate() {
+    for (at, line) in lines.iter().map(Line).enumerate() {
         let (address, share, limit) = (line.address(), line.share(), line.limit());
-        let listed_before = lines.clone().take(at).any(|other| other.address() == address);
+        let listed_before = lines[..at].iter().any(|other| Line(other).address() == address);
         if R::faulty(Fault::SameListed, listed_before)
             || R::faulty(Fault::ShareOverLimit, share > limit)
             || R::faulty(Fault::LimitZero, limit == 0)
@@ -178,7 +168,7 @@ mod tests {
     use crate::rules::Law;
 
     fn listed(address: u8, share: u8, limit: u8) -> Vec<u8> {
-        let mut line = vec![0; ROSTER_RECORD];
+        let mut line = vec![0; LINE_RECORD];
         line[0] = LISTED;
         line[16] = address;
         line[17] = share;
@@ -186,24 +176,23 @@ mod tests {
         line
     }
 
-    const HEAD: usize = Layout::TEN.head();
-    const CLOCK_RECORD: usize = Layout::TEN.clock_record();
+    const HEAD: usize = head(Weeks::Ten);
+    const CLOCK_RECORD: usize = clock_record(Weeks::Ten);
 
     /// n = 4, address 1 with share 2 and limit 3, address 2 with share 1 and limit 1.
-    fn made_for(layout: Layout) -> Vec<u8> {
-        let mut bytes = vec![0; layout.length(4)];
+    fn made_for(weeks: Weeks) -> Vec<u8> {
+        let mut bytes = vec![0; head(weeks) + 4 * SLOT_RECORD];
         let roster = [listed(1, 2, 3), listed(2, 1, 1)].concat();
         assert_eq!(make(0, 0, &mut bytes, &roster), 0);
         bytes
     }
 
     fn made() -> Vec<u8> {
-        made_for(Layout::TEN)
+        made_for(Weeks::Ten)
     }
 
     fn put(bytes: &mut [u8], slot: usize, address: u8, port: u8, number: u8, name: &[u8]) {
-        let head = shape_of(bytes.len()).unwrap().0.head();
-        let record = &mut bytes[head + slot * SLOT_RECORD..][..SLOT_RECORD];
+        let record = &mut bytes[HEAD + slot * SLOT_RECORD..][..SLOT_RECORD];
         record[0] = PENDING;
         record[field::ADDRESS + 15] = address;
         record[field::PORT + 1] = port;
@@ -230,24 +219,20 @@ mod tests {
         let mut bytes = made();
         put(&mut bytes, 1, 1, 9, 7, b"\x01a\x00");
         assert!(sound(&bytes));
-        let (line, slot) = (CLOCK_RECORD + ROSTER_RECORD, HEAD + SLOT_RECORD);
+        let (line, slot) = (CLOCK_RECORD + LINE_RECORD, HEAD + SLOT_RECORD);
         for (at, value) in [
             (0, 2),
             (0, 9),
             (1, 0x25),
             (line, 2),
             (line, 4),
-            (line, 0x0B),
-            (line, 0x0D),
             (line + 17, 2),
             (line + 18, 0),
             (line + 18, 65),
             (line + 16, 1),
-            (line + ROSTER_RECORD, 3),
-            (line + ROSTER_RECORD, 1),
-            (line + ROSTER_RECORD, 0x0B),
-            (line + ROSTER_RECORD, 0x0D),
-            (line + ROSTER_RECORD + 1, 1),
+            (line + LINE_RECORD, 3),
+            (line + LINE_RECORD, 1),
+            (line + LINE_RECORD + 1, 1),
             (HEAD - 1, 1),
             (HEAD, 0),
             (HEAD, 3),
@@ -288,7 +273,7 @@ mod tests {
             bytes[1..5].copy_from_slice(&place.to_be_bytes());
             assert_eq!(sound(&bytes), is_sound, "{place}");
         }
-        let mut bytes = made_for(Layout::THIRTEEN);
+        let mut bytes = made_for(Weeks::Thirteen);
         for (place, is_sound) in [
             (0u64, true),
             (619_315_199, true),
@@ -316,19 +301,15 @@ mod tests {
     /// The running count is free, the kind is that of the length.
     #[test]
     fn kinds_of_clocks() {
-        for layout in Layout::ALL {
-            let (right, count) = match layout.weeks {
-                Weeks::Ten => (0x01, 5),
-                Weeks::Thirteen => (0x09, 9),
-            };
-            let mut bytes = made_for(layout);
+        for (weeks, right, count) in [(Weeks::Ten, 0x01, 5), (Weeks::Thirteen, 0x09, 9)] {
+            let mut bytes = made_for(weeks);
             assert_eq!(bytes[0], right);
             for now in [1u32, 1 << 31, u32::MAX] {
                 bytes[count..count + 4].copy_from_slice(&now.to_be_bytes());
-                assert!(sound(&bytes), "{layout:?} {now}");
+                assert!(sound(&bytes), "{weeks:?} {now}");
             }
             for kind in (0..=255).filter(|&kind| kind != right) {
-                assert!(unsound_with(&bytes, 0, kind), "{layout:?} {kind}");
+                assert!(unsound_with(&bytes, 0, kind), "{weeks:?} {kind}");
             }
         }
     }
@@ -336,7 +317,7 @@ mod tests {
     /// All else is as in the other table, four bytes further on.
     #[test]
     fn a_wider_clock_moves_the_rest() {
-        let (narrow, wide) = (made(), made_for(Layout::THIRTEEN));
+        let (narrow, wide) = (made(), made_for(Weeks::Thirteen));
         assert_eq!(narrow[..9], [1, 0, 0, 0, 0, 0, 0, 0, 0]);
         assert_eq!(wide[..13], [9, 0, 0, 0, 0, 0, 0, 0, 0, 0, 0, 0, 0]);
         assert_eq!(narrow[9..], wide[13..]);
@@ -351,68 +332,6 @@ mod tests {
                 sound(&bytes)
             });
             assert_eq!(one, other, "byte {at}");
-        }
-    }
-
-    /// Address 1 holds two entries by two ports, one of them established, address 2 none, address 9,
-    /// which is not listed, one.
-    #[test]
-    fn held_is_the_count_over_the_slots() {
-        for layout in [Layout::TEN.counted(), Layout::THIRTEEN.counted()] {
-            let mut bytes = made_for(layout);
-            let (one, two) = (layout.clock_record(), layout.clock_record() + 20);
-            let (unused, head) = (two + 20, layout.head());
-            assert_eq!((bytes[one], bytes[two], bytes[unused]), (0x0B, 0x0B, 0x0D));
-            assert!(sound(&bytes));
-            put(&mut bytes, 0, 1, 7, 1, b"\x00");
-            put(&mut bytes, 2, 9, 7, 2, b"\x00");
-            assert!(!sound(&bytes));
-            bytes[one + 19] = 1;
-            assert!(sound(&bytes));
-            put(&mut bytes, 3, 1, 8, 3, b"\x00");
-            bytes[head + 3 * SLOT_RECORD] = ESTABLISHED;
-            assert!(!sound(&bytes));
-            bytes[one + 19] = 2;
-            assert!(sound(&bytes));
-            for held in (0..=255).filter(|&held| held != 2) {
-                assert!(unsound_with(&bytes, one + 19, held), "{held}");
-            }
-            for held in 1..=255 {
-                assert!(unsound_with(&bytes, two + 19, held), "{held}");
-                assert!(unsound_with(&bytes, unused + 19, held), "{held}");
-                assert!(unsound_with(&bytes, head - 1, held), "{held}");
-            }
-            // Exchanged.
-            bytes.swap(one + 19, two + 19);
-            assert!(!sound(&bytes));
-            bytes.swap(one + 19, two + 19);
-            // Any other kind of line.
-            for at in [one, two, unused, head - 20] {
-                for kind in (0..=255).filter(|&kind| kind != bytes[at]) {
-                    assert!(unsound_with(&bytes, at, kind), "{kind} at {at}");
-                }
-            }
-        }
-    }
-
-    /// But for held, the lines' form changes no rule.
-    #[test]
-    fn lines_with_held_keep_the_same_rules() {
-        for plain in [Layout::TEN, Layout::THIRTEEN] {
-            let tables = [plain, plain.counted()].map(|layout| (layout, made_for(layout)));
-            for line in 0..LINES {
-                for at in 1..ROSTER_RECORD {
-                    for bit in 0..8 {
-                        let [one, other] = tables.each_ref().map(|(layout, table)| {
-                            let mut bytes = table.clone();
-                            bytes[layout.clock_record() + line * layout.lines.record() + at] ^=
-                                1 << bit;
-                            sound(&bytes)
-                        });
-                        assert_eq!(one, other, "line {line}, byte {at}, bit {bit}");
-                    }
-                }
-            }
         }
     }
 

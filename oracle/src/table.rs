@@ -9,15 +9,11 @@ pub const CLOCK: u8 = 0x01;
 pub const WIDE_CLOCK: u8 = 0x09;
 pub const UNUSED: u8 = 0x02;
 pub const LISTED: u8 = 0x03;
-/// A listed line that says what its address holds, and an unused one beside such.
-pub const COUNTED_LISTED: u8 = 0x0B;
-pub const COUNTED_UNUSED: u8 = 0x0D;
 pub const FREE: u8 = 0x04;
 pub const PENDING: u8 = 0x05;
 pub const ESTABLISHED: u8 = 0x06;
 
-/// A roster's record, which a plain line is too: kind, address, share, limit.
-pub const ROSTER_RECORD: usize = 19;
+pub const LINE_RECORD: usize = 19;
 pub const LINES: usize = 16;
 pub const SLOT_RECORD: usize = 320;
 pub const MOST_SLOTS: usize = 64;
@@ -36,10 +32,15 @@ pub mod field {
     pub const PADDING: usize = 295;
 }
 
-/// Where a counted line has held.
-const HELD_AT: usize = ROSTER_RECORD;
-
+pub type LineRecord = [u8; LINE_RECORD];
 pub type SlotRecord = [u8; SLOT_RECORD];
+
+/// An unused roster line, all zero.
+pub const UNUSED_LINE: LineRecord = {
+    let mut line = [0; LINE_RECORD];
+    line[0] = UNUSED;
+    line
+};
 
 pub const fn clock_kind(weeks: Weeks) -> u8 {
     match weeks {
@@ -48,95 +49,27 @@ pub const fn clock_kind(weeks: Weeks) -> u8 {
     }
 }
 
-/// How roster lines are written: as a roster's records, or with what is held behind the limit.
-#[derive(Clone, Copy, PartialEq, Eq, Debug)]
-pub enum Lines {
-    Plain,
-    Counted,
-}
-
-impl Lines {
-    pub const fn record(self) -> usize {
-        match self {
-            Lines::Plain => ROSTER_RECORD,
-            Lines::Counted => ROSTER_RECORD + 1,
-        }
-    }
-
-    pub const fn listed_kind(self) -> u8 {
-        match self {
-            Lines::Plain => LISTED,
-            Lines::Counted => COUNTED_LISTED,
-        }
-    }
-
-    pub const fn unused_kind(self) -> u8 {
-        match self {
-            Lines::Plain => UNUSED,
-            Lines::Counted => COUNTED_UNUSED,
-        }
-    }
-
-    pub const fn other(self) -> Lines {
-        match self {
-            Lines::Plain => Lines::Counted,
-            Lines::Counted => Lines::Plain,
-        }
+/// The clock record's length: kind, place and running count.
+pub const fn clock_record(weeks: Weeks) -> usize {
+    match weeks {
+        Weeks::Ten => 1 + 4 + 4,
+        Weeks::Thirteen => 1 + 8 + 4,
     }
 }
 
-/// What a table's length says of it, besides the number of slots.
-#[derive(Clone, Copy, PartialEq, Eq, Debug)]
-pub struct Layout {
-    pub weeks: Weeks,
-    pub lines: Lines,
+/// The length of what comes before the slots: the clock and the roster.
+pub const fn head(weeks: Weeks) -> usize {
+    clock_record(weeks) + LINES * LINE_RECORD
 }
 
-impl Layout {
-    pub const TEN: Layout = Layout { weeks: Weeks::Ten, lines: Lines::Plain };
-    pub const THIRTEEN: Layout = Layout { weeks: Weeks::Thirteen, lines: Lines::Plain };
-    pub const ALL: [Layout; 4] =
-        [Layout::TEN, Layout::THIRTEEN, Layout::TEN.counted(), Layout::THIRTEEN.counted()];
-
-    pub const fn counted(self) -> Layout {
-        Layout { lines: Lines::Counted, ..self }
-    }
-
-    /// The same weeks with the lines' other form.
-    pub const fn other_form(self) -> Layout {
-        Layout { lines: self.lines.other(), ..self }
-    }
-
-    /// The clock record's length: kind, place and running count.
-    pub const fn clock_record(self) -> usize {
-        match self.weeks {
-            Weeks::Ten => 1 + 4 + 4,
-            Weeks::Thirteen => 1 + 8 + 4,
-        }
-    }
-
-    /// The length of what comes before the slots: the clock and the roster.
-    pub const fn head(self) -> usize {
-        self.clock_record() + LINES * self.lines.record()
-    }
-
-    /// The length of a table of so many slots.
-    pub const fn length(self, slots: usize) -> usize {
-        self.head() + slots * SLOT_RECORD
-    }
-}
-
-/// The length of the longest table.
-pub const LONGEST: usize = Layout::THIRTEEN.counted().length(MOST_SLOTS);
-
-/// The layout and the number of slots of a table of this length, n from 1 to 64: 313 + 320n bytes for
-/// weeks of ten bits, 317 + 320n for those of thirteen, and 16 more for lines with held.
-pub fn shape_of(length: usize) -> Option<(Layout, usize)> {
-    Layout::ALL.into_iter().find_map(|layout| {
-        let body = length.checked_sub(layout.head())?;
+/// The bits of the weeks and the number of slots of a table of this length, n from 1 to 64:
+/// 313 + 320n bytes for weeks of ten bits, 317 + 320n for those of thirteen.
+pub fn shape_of(length: usize) -> Option<(Weeks, usize)> {
+    [Weeks::Ten, Weeks::Thirteen].into_iter().find_map(|weeks| {
+        let body = length.checked_sub(head(weeks))?;
         let slots = body / SLOT_RECORD;
         let right = body % SLOT_RECORD == 0 && (1..=MOST_SLOTS).contains(&slots);
-        right.then_some((layout, slots))
+        right.then_some((weeks, slots))
     })
 }
 
@@ -144,9 +77,9 @@ fn array<const N: usize>(bytes: &[u8], at: usize) -> [u8; N] {
     bytes[at..at + N].try_into().expect("a range of N bytes")
 }
 
-/// A roster line: listed address, share, limit, and in a counted table held.
+/// A roster line: listed address, share, limit.
 #[derive(Clone, Copy)]
-pub struct Line<'a>(pub &'a [u8]);
+pub struct Line<'a>(pub &'a LineRecord);
 
 impl Line<'_> {
     pub fn kind(self) -> u8 {
@@ -164,11 +97,6 @@ impl Line<'_> {
     pub fn limit(self) -> u32 {
         self.0[18].into()
     }
-
-    /// What the line says that its address holds; nothing in a plain one.
-    pub fn held(self) -> Option<u32> {
-        self.0.get(HELD_AT).map(|&held| held.into())
-    }
 }
 
 /// A slot that holds a pending or an established entry.
@@ -176,11 +104,6 @@ impl Line<'_> {
 pub struct Entry<'a>(pub &'a SlotRecord);
 
 impl<'a> Entry<'a> {
-    /// Whose it is.
-    pub fn sender(self) -> Sender {
-        Sender { address: self.address(), port: self.port() }
-    }
-
     pub fn is_established(self) -> bool {
         self.0[0] == ESTABLISHED
     }
@@ -230,23 +153,24 @@ impl<'a> Entry<'a> {
 
 /// A lent table of a right length, taken apart into its records.
 pub struct Table<'a> {
-    pub layout: Layout,
+    pub weeks: Weeks,
     pub clock: &'a mut [u8],
-    pub roster: &'a mut [u8],
+    pub roster: &'a mut [LineRecord],
     pub slots: &'a mut [SlotRecord],
 }
 
 impl<'a> Table<'a> {
     /// Nothing if the length is wrong.
     pub fn new(bytes: &'a mut [u8]) -> Option<Self> {
-        let (layout, _) = shape_of(bytes.len())?;
-        let (clock, rest) = bytes.split_at_mut(layout.clock_record());
-        let (roster, slots) = rest.split_at_mut(LINES * layout.lines.record());
-        Some(Table { layout, clock, roster, slots: slots.as_chunks_mut().0 })
+        let (weeks, _) = shape_of(bytes.len())?;
+        let (clock, rest) = bytes.split_at_mut(clock_record(weeks));
+        let (roster, slots) = rest.split_at_mut(LINES * LINE_RECORD);
+        let (roster, slots) = (roster.as_chunks_mut().0, slots.as_chunks_mut().0);
+        Some(Table { weeks, clock, roster, slots })
     }
 
     pub fn clock(&self) -> Clock {
-        let weeks = self.layout.weeks;
+        let weeks = self.weeks;
         let (place, count) = match weeks {
             Weeks::Ten => (u32::from_be_bytes(array(self.clock, 1)).into(), array(self.clock, 5)),
             Weeks::Thirteen => (u64::from_be_bytes(array(self.clock, 1)), array(self.clock, 9)),
@@ -257,39 +181,16 @@ impl<'a> Table<'a> {
     /// Place and running count; the kind stays.
     pub fn set_clock(&mut self, clock: Clock) {
         let count = self.clock.len() - 4;
-        match self.layout.weeks {
+        match self.weeks {
             Weeks::Ten => self.clock[1..count].copy_from_slice(&(clock.place as u32).to_be_bytes()),
             Weeks::Thirteen => self.clock[1..count].copy_from_slice(&clock.place.to_be_bytes()),
         }
         self.clock[count..].copy_from_slice(&clock.count.to_be_bytes());
     }
 
-    pub fn lines(&self) -> impl Iterator<Item = Line<'_>> + Clone {
-        self.roster.chunks_exact(self.layout.lines.record()).map(Line)
-    }
-
-    pub fn lines_mut(&mut self) -> impl Iterator<Item = &mut [u8]> {
-        self.roster.chunks_exact_mut(self.layout.lines.record())
-    }
-
     /// The listed lines, which come first.
-    pub fn listed(&self) -> impl Iterator<Item = Line<'_>> + Clone {
-        let kind = self.layout.lines.listed_kind();
-        self.lines().take_while(move |line| line.kind() == kind)
-    }
-
-    /// What the line of this address says that it holds; nothing if it has none, or a plain one.
-    pub fn held(&self, address: u128) -> Option<u32> {
-        self.listed().find(|line| line.address() == address)?.held()
-    }
-
-    /// Another held in the line of this address.
-    pub fn set_held(&mut self, address: u128, held: u32) {
-        let kind = self.layout.lines.listed_kind();
-        let found = |line: &&mut [u8]| line[0] == kind && Line(line).address() == address;
-        if let Some(line) = self.lines_mut().find(found) {
-            line[HELD_AT] = held as u8;
-        }
+    pub fn listed(&self) -> impl Iterator<Item = Line<'_>> {
+        self.roster.iter().map(Line).take_while(|line| line.kind() == LISTED)
     }
 
     pub fn is_free(&self, slot: usize) -> bool {
@@ -373,61 +274,16 @@ mod tests {
 
     #[test]
     fn lengths() {
-        let heads = [313, 317, 329, 333];
-        assert_eq!(Layout::ALL.map(Layout::head), heads);
-        for (layout, head) in Layout::ALL.into_iter().zip(heads) {
-            for slots in 1..=64 {
-                assert_eq!(shape_of(head + 320 * slots), Some((layout, slots)));
-                assert_eq!(layout.length(slots), head + 320 * slots);
-            }
-            // No slots, and 65.
-            assert_eq!(shape_of(head), None);
-            assert_eq!(shape_of(head + 320 * 65), None);
+        assert_eq!([Weeks::Ten, Weeks::Thirteen].map(head), [313, 317]);
+        for slots in 1..=64 {
+            assert_eq!(shape_of(313 + 320 * slots), Some((Weeks::Ten, slots)));
+            assert_eq!(shape_of(317 + 320 * slots), Some((Weeks::Thirteen, slots)));
         }
-        // All others are no tables.
+        // All others are no tables, those of no slots and of 65 among them.
         let tables = (0..25_000).filter(|&length| shape_of(length).is_some());
-        assert_eq!(tables.count(), 4 * 64);
-        for length in [0, usize::MAX] {
+        assert_eq!(tables.count(), 2 * 64);
+        for length in [0, 313, 317, 313 + 320 * 65, 317 + 320 * 65, usize::MAX] {
             assert_eq!(shape_of(length), None);
-        }
-        assert_eq!(LONGEST, 20_813);
-    }
-
-    #[test]
-    fn lines_have_their_forms() {
-        for (layout, record, listed, unused) in [
-            (Layout::TEN, 19, 3, 2),
-            (Layout::THIRTEEN, 19, 3, 2),
-            (Layout::TEN.counted(), 20, 0x0B, 0x0D),
-            (Layout::THIRTEEN.counted(), 20, 0x0B, 0x0D),
-        ] {
-            let lines = layout.lines;
-            assert_eq!(lines.record(), record);
-            assert_eq!((lines.listed_kind(), lines.unused_kind()), (listed, unused));
-            assert_ne!(layout.other_form(), layout);
-            assert_eq!(layout.other_form().other_form(), layout);
-
-            // The last line, and held alone of its bytes.
-            let mut bytes = vec![0; layout.length(1)];
-            let mut table = Table::new(&mut bytes).unwrap();
-            for (at, line) in table.lines_mut().enumerate() {
-                line[0] = listed;
-                line[16] = at as u8;
-                line[17..19].copy_from_slice(&[2, 3]);
-            }
-            let line = table.lines().last().unwrap();
-            assert_eq!((line.address(), line.share(), line.limit()), (15, 2, 3));
-            let counted = lines == Lines::Counted;
-            assert_eq!(table.held(15), counted.then_some(0));
-            if counted {
-                table.set_held(15, 64);
-                assert_eq!(
-                    (table.held(14), table.held(15), table.held(16)),
-                    (Some(0), Some(64), None)
-                );
-                assert_eq!(bytes[layout.head() - 1], 64);
-                assert_eq!(bytes.iter().filter(|&&byte| byte == 64).count(), 1);
-            }
         }
     }
 

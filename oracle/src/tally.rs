@@ -148,15 +148,14 @@ fn place_of(weeks: i64, week: u32, second: u32) -> Option<i64> {
     }
 }
 
-/// Weeks and n by the buffer's length, and how many bytes a roster line has in it: 20 with held.
-pub fn by_length(length: usize) -> Option<(i64, usize, usize)> {
+/// Weeks and n by the buffer's length.
+pub fn by_length(length: usize) -> Option<(i64, usize)> {
     for n in 1..=64 {
-        for (head, weeks, line) in
-            [(313, 1_024, 19), (317, 8_192, 19), (329, 1_024, 20), (333, 8_192, 20)]
-        {
-            if length == head + 320 * n {
-                return Some((weeks, n, line));
-            }
+        if length == 313 + 320 * n {
+            return Some((1_024, n));
+        }
+        if length == 317 + 320 * n {
+            return Some((8_192, n));
         }
     }
     None
@@ -206,7 +205,7 @@ pub fn make(
     table_length: usize,
     roster: &[u8],
 ) -> Answer {
-    let Some((weeks, slots, _)) = by_length(table_length) else {
+    let Some((weeks, slots)) = by_length(table_length) else {
         return Answer::refused(1);
     };
     let Some(place) = place_of(weeks, week, second) else {
@@ -703,125 +702,34 @@ mod tests {
 
     #[test]
     fn lengths_of_tables() {
-        for (one, most, weeks, line) in [
-            (633, 20_793, 1_024, 19),
-            (637, 20_797, 8_192, 19),
-            (649, 20_809, 1_024, 20),
-            (653, 20_813, 8_192, 20),
-        ] {
-            assert_eq!(by_length(one), Some((weeks, 1, line)));
-            assert_eq!(by_length(most), Some((weeks, 64, line)));
-            assert_eq!(by_length(one - 320), None);
-            assert_eq!(by_length(most + 320), None);
+        assert_eq!(by_length(633), Some((1_024, 1)));
+        assert_eq!(by_length(20_793), Some((1_024, 64)));
+        assert_eq!(by_length(637), Some((8_192, 1)));
+        assert_eq!(by_length(20_797), Some((8_192, 64)));
+        for length in [0, 313, 314, 315, 316, 317, 632, 634, 635, 636, 638, 21_113, 21_117] {
+            assert_eq!(by_length(length), None);
         }
-        let tables = (0..25_000).filter(|&length| by_length(length).is_some());
-        assert_eq!(tables.count(), 256);
-    }
-
-    /// A roster of one line, for address 0.
-    fn roster(share: u8, limit: u8) -> [u8; 19] {
-        let mut roster = [0; 19];
-        roster[0] = 3;
-        roster[17..].copy_from_slice(&[share, limit]);
-        roster
     }
 
     #[test]
     fn tables_read_as_tallies() {
-        for head in [313, 317, 329, 333] {
+        for length in [313 + 3 * 320, 317 + 3 * 320] {
             let mut known = None;
-            let mut bytes = vec![7; head + 3 * 320];
+            let mut bytes = vec![7; length];
             assert_eq!(table::read(&bytes), None);
-            make(&mut known, 3, 4, bytes.len(), &roster(1, 2));
-            assert_eq!(crate::make(3, 4, &mut bytes, &roster(1, 2)), 0);
+            let mut roster = [0; 19];
+            roster[0] = 3;
+            roster[17..].copy_from_slice(&[1, 2]);
+            make(&mut known, 3, 4, bytes.len(), &roster);
+            assert_eq!(crate::make(3, 4, &mut bytes, &roster), 0);
             assert_eq!(table::read(&bytes), known);
-            // The clock's kind is that of the length.
+            // The kind is that of the length.
             bytes[0] ^= 8;
             assert_eq!(table::read(&bytes), None);
             bytes[0] ^= 8;
             assert_eq!(table::read(&bytes), known);
             bytes[400] = 1;
             assert_eq!(table::read(&bytes), None);
-        }
-    }
-
-    /// A table of three slots with one line, for address 0, which holds so many entries.
-    fn held_table(head: usize, held: u8) -> Vec<u8> {
-        let mut bytes = vec![7; head + 3 * 320];
-        assert_eq!(crate::make(0, 0, &mut bytes, &roster(0, 2)), 0);
-        for at in 0..held {
-            let slot = &mut bytes[head + 320 * usize::from(at)..][..320];
-            slot[0] = 5 + at % 2;
-            // Its port, number, lease, and the root's name.
-            slot[18] = at;
-            slot[26] = 9 + at;
-            slot[30] = 60;
-            slot[39] = 1;
-        }
-        if head > 317 {
-            bytes[head - 320 + 19] = held;
-        }
-        bytes
-    }
-
-    /// Whether pending or established, and over all ports.
-    #[test]
-    fn held_is_the_count_over_the_slots() {
-        for head in [329, 333] {
-            let line = head - 320;
-            for held in 0..3 {
-                let bytes = held_table(head, held);
-                let tally = table::read(&bytes).unwrap();
-                assert_eq!(tally.holdings.len(), usize::from(held));
-                // The tally is that of the plain table.
-                assert_eq!(tally, table::read(&held_table(head - 16, held)).unwrap());
-                for wrong in (0..=255).filter(|&wrong| wrong != held) {
-                    let mut bytes = bytes.clone();
-                    bytes[line + 19] = wrong;
-                    assert_eq!(table::read(&bytes), None, "{wrong} for {held}");
-                }
-                for (at, value) in [(0, 3), (0, 13), (20, 2), (20, 11), (39, 1), (319, 1)] {
-                    let mut bytes = bytes.clone();
-                    bytes[line + at] = value;
-                    assert_eq!(table::read(&bytes), None, "{value} at {at}");
-                }
-                let mut plain = held_table(head - 16, held);
-                plain[line] = 11;
-                assert_eq!(table::read(&plain), None);
-                plain[line] = 3;
-                plain[line + 19] = 13;
-                assert_eq!(table::read(&plain), None);
-            }
-        }
-    }
-
-    #[test]
-    fn tables_move_there_and_back() {
-        for (plain, counted) in [(313, 329), (317, 333)] {
-            for held in 0..3 {
-                let [source, target] = [plain, counted].map(|head| held_table(head, held));
-                let moved = |to_held, source: &[u8], more: isize| {
-                    let length = source.len().wrapping_add_signed(more);
-                    table::moved(to_held, source, length)
-                };
-                assert_eq!(moved(true, &source, 16), Some(target.clone()));
-                assert_eq!(moved(false, &target, -16), Some(source.clone()));
-                // Another length; the other form already.
-                for more in [-336, -20, -17, -15, -12, -4, 0, 4, 12, 15, 17, 20, 336] {
-                    assert_eq!(moved(true, &source, more), None);
-                    assert_eq!(moved(false, &target, more), None);
-                }
-                for more in [-16, 0, 16] {
-                    assert_eq!(moved(true, &target, more), None);
-                    assert_eq!(moved(false, &source, more), None);
-                }
-                // Unsound.
-                let [mut source, mut target] = [source, target];
-                source[0] ^= 8;
-                target[counted - 320 + 19] ^= 1;
-                assert_eq!(moved(true, &source, 16), None);
-                assert_eq!(moved(false, &target, -16), None);
-            }
         }
     }
 

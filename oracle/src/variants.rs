@@ -8,19 +8,19 @@ mod by_rules;
 
 pub use by_rules::folds_wrong_at;
 
-use crate::generate::Layouts;
+use crate::generate::Widths;
 use crate::name;
 use crate::random::Random;
 use crate::server::Server;
 
 pub type Named = (String, Box<dyn Server>);
 
-/// Every wrong variant with its name, or every one that is wrong on tables with plain lines. The seed
-/// picks the bytes at which two of them fold wrongly.
-pub fn all(seed: u64, layouts: Layouts) -> Vec<Named> {
-    let mut all = by_rules::all(layouts);
+/// Every wrong variant with its name, or every one that is wrong on tables for weeks of ten bits. The
+/// seed picks the bytes at which two of them fold wrongly.
+pub fn all(seed: u64, widths: Widths) -> Vec<Named> {
+    let mut all = by_rules::all(widths);
     all.extend(folds_wrong_at(picked(seed)));
-    all.extend(around::all(layouts));
+    all.extend(around::all(widths));
     all
 }
 

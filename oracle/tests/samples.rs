@@ -1,11 +1,10 @@
-//! The samples W1 to W11 of document 01, those of the clock with weeks of thirteen bits, and a table
-//! whose lines have held.
+//! The samples W1 to W11 of document 01, and those of the clock with weeks of thirteen bits.
 
 use oracle::clock::{self, Clock, Weeks, WEEK};
 use oracle::query::LlqNumber;
 use oracle::rules::{Law, Rules};
 use oracle::table::{Entry, SlotRecord};
-use oracle::{from_held, make, serve, tick, to_held, Served, Ticked};
+use oracle::{make, serve, tick, Served, Ticked};
 
 #[test]
 fn w1_to_w3_steps() {
@@ -165,66 +164,4 @@ fn w11_query_and_reply() {
     assert_eq!(tick(7, 3_699, &mut table), Ticked { number: 0, freed: 0 });
     assert_eq!(tick(7, 3_700, &mut table), Ticked { number: 0, freed: 1 });
     assert!(table[313] == 4 && table[314..633].iter().all(|&byte| byte == 0));
-}
-
-/// The 649 bytes of a table with held, made with one line; after that address's setup, and after its end.
-/// The same with plain lines, moved there and back.
-#[test]
-fn a_table_with_held() {
-    let whole = |kinds: [u8; 2], held: &[u8], slot: &[u8]| {
-        let mut bytes = vec![1];
-        bytes.extend((7 * WEEK + 100).to_be_bytes());
-        bytes.extend([0; 4]);
-        bytes.push(kinds[0]);
-        bytes.extend([0, 0, 0, 0, 0, 0, 0, 0, 0, 0, 0xFF, 0xFF, 0x7F, 0, 0, 1, 1, 2]);
-        bytes.extend(held);
-        for _ in 1..16 {
-            bytes.push(kinds[1]);
-            bytes.extend([0; 18]);
-            bytes.extend(vec![0; held.len()]);
-        }
-        let length = bytes.len() + 320;
-        bytes.extend(slot);
-        bytes.resize(length, 0);
-        bytes
-    };
-    let counted = |held: u8, slot: &[u8]| whole([0x0B, 0x0D], &[held], slot);
-    let plain = |slot: &[u8]| whole([0x03, 0x02], &[], slot);
-    let entry = bytes(
-        "05 00 00 00 00 00 00 00 00 00 00 FF FF 7F 00 00 01 14 E9 00 00 00 00 00 00 00 07 \
-         00 00 0E 10 00 00 00 00 00 0C 00 01 03 01 61 00",
-    );
-    let roster = bytes("03 00 00 00 00 00 00 00 00 00 00 FF FF 7F 00 00 01 01 02");
-
-    let mut table = vec![0xAA; 649];
-    assert_eq!(make(7, 100, &mut table, &roster), 0);
-    assert_eq!(table, counted(0, &[4]));
-    let mut reply = [0; 52];
-    let mut send = |table: &mut [u8], query: &[u8]| {
-        let served = serve(7, 100, 0, 0xFFFF_7F00_0001, 5_353, 7, query, table, &mut reply);
-        assert_eq!((served, error(&reply)), (Served { number: 0, length: 52 }, 0));
-    };
-    send(&mut table, &query(b'a'));
-    assert_eq!(table, counted(1, &entry));
-
-    let mut moved = vec![0xDD; 633];
-    assert_eq!(from_held(&table, &mut moved), 0);
-    assert_eq!(moved, plain(&entry));
-    let mut back = vec![0xDD; 649];
-    assert_eq!(to_held(&moved, &mut back), 0);
-    assert_eq!(back, table);
-    assert_eq!(to_held(&table, &mut [0xDD; 665]), 1);
-    assert_eq!(from_held(&moved, &mut [0xDD; 617]), 1);
-
-    // Established by a response, and ended.
-    let mut response = query(b'a');
-    response[47] = 7;
-    let mut end = response.clone();
-    end[37] = 2;
-    end[48..].fill(0);
-    for (table, after) in [(&mut table, counted(0, &[4])), (&mut moved, plain(&[4]))] {
-        send(table, &response);
-        send(table, &end);
-        assert_eq!(*table, after);
-    }
 }

@@ -57,18 +57,6 @@ asking_two =
     0 ∷ 1 ∷ 0 ∷ 0 ∷ 0 ∷ 2 ∷ 0 ∷ 0 ∷ 0 ∷ 0 ∷ 0 ∷ 1 ∷ 1 ∷ 97 ∷ 0 ∷ 0 ∷ 12 ∷ 0 ∷ 1 ∷ 1 ∷ 98 ∷ 0 ∷ 0 ∷ 12 ∷ 0 ∷ 1 ∷ 0 ∷ 0 ∷ 41 ∷ 5 ∷ 192 ∷ 0 ∷ 0 ∷ 0 ∷ 0 ∷ 0 ∷ 44
     ∷ (sent_option 1 1 0 3600 ++ sent_option 2 1 0 3600)
 
--- one question, a name of one byte, type PTR, class IN
-abbrev question_of : ℕ → List ℕ
-question_of byte = 1 ∷ byte ∷ 0 ∷ 0 ∷ 12 ∷ 0 ∷ 1 ∷ []
-
--- five setups, for a. to e.
-abbrev pub asking_five : List ℕ
-asking_five =
-    (0 ∷ 1 ∷ 0 ∷ 0 ∷ 0 ∷ 5 ∷ 0 ∷ 0 ∷ 0 ∷ 0 ∷ 0 ∷ 1 ∷ [])
-    ++ question_of 97 ++ question_of 98 ++ question_of 99 ++ question_of 100 ++ question_of 101
-    ++ (0 ∷ 0 ∷ 41 ∷ 5 ∷ 192 ∷ 0 ∷ 0 ∷ 0 ∷ 0 ∷ 0 ∷ 110 ∷ [])
-    ++ sent_option 1 1 0 3600 ++ sent_option 1 1 0 3600 ++ sent_option 1 1 0 3600 ++ sent_option 1 1 0 3600 ++ sent_option 1 1 0 3600
-
 -- A ROSTER of one line
 abbrev pub roster_of : ℕ → ℕ → ℕ → List ℕ
 roster_of address share limit = 3 ∷ 0 ∷ 0 ∷ 0 ∷ 0 ∷ 0 ∷ 0 ∷ 0 ∷ 0 ∷ 0 ∷ 0 ∷ 0 ∷ 0 ∷ 0 ∷ 0 ∷ 0 ∷ address ∷ share ∷ limit ∷ []
@@ -95,15 +83,12 @@ from-at-in-range x a p d hx ha hp e = record { week = lit< tt; second = hx; addr
 pub from-in-range : (a p : ℕ) (d : List ℕ) → a < 2 ^ 128 → p < 2 ^ 16 → are_bytes d → ServeInRange (from a p d)
 from-in-range a p d = from-at-in-range 0 a p d (lit< tt)
 
--- A TABLE'S BUFFER of n slots, with weeks of ten bits and of thirteen, and of ten with held; and a reply's of the room that a call says
+-- A TABLE'S BUFFER of n slots, with weeks of ten bits and of thirteen, and a reply's of the room that a call says
 abbrev pub table_buffer : ℕ → List ℕ
 table_buffer n = replicate (313 + 320 * n) 0
 
 abbrev pub wide_buffer : ℕ → List ℕ
 wide_buffer n = replicate (317 + 320 * n) 0
-
-abbrev pub held_buffer : ℕ → List ℕ
-held_buffer n = replicate (329 + 320 * n) 0
 
 abbrev pub reply_buffer : ServeCall → List ℕ
 reply_buffer c = replicate c.room 0

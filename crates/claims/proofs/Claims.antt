@@ -24,12 +24,7 @@ use Rattle.claims.specs.NumbersInBytes.{NumbersInBytes}
 use Rattle.claims.specs.TableLayout.{TableLayout}
 use Rattle.claims.specs.OneSlot.{OneSlot}
 use Rattle.claims.specs.CallContracts.{CallsExactly, ContractsExactly}
-use Rattle.claims.specs.HeldForm.{HeldCounts}
-use Rattle.claims.specs.SameAnswers.{SameAnswers}
-use Rattle.claims.specs.BytesKept.{BytesKept}
-use Rattle.claims.specs.Moves.{Moves, MovedOn}
 use Rattle.claims.specs.Impostors.{Refuted, OwnPlaces}
-use Rattle.claims.specs.HeldImpostors.{HeldRefuted}
 use Rattle.claims.specs.Steps.{Steps}
 use Rattle.claims.specs.Ages.{Ages}
 use Rattle.claims.specs.Resumes.{Resumes}
@@ -55,12 +50,7 @@ use Rattle.claims.proofs.NumbersInBytes.{numbers-in-bytes}
 use Rattle.claims.proofs.TableLayout.{table-layout}
 use Rattle.claims.proofs.OneSlot.{one-slot}
 use Rattle.claims.proofs.Contracts.{calls-exactly, contracts-exactly}
-use Rattle.claims.proofs.HeldCounts.{held-counts}
-use Rattle.claims.proofs.SameAnswers.{same-answers}
-use Rattle.claims.proofs.BytesKept.{bytes-kept}
-use Rattle.claims.proofs.Moves.{moves, moved_on_lem}
 use Rattle.claims.proofs.Impostors.{refuted}
-use Rattle.claims.proofs.HeldImpostors.{held-refuted}
 use Rattle.claims.proofs.OwnPlaces.{own-places}
 use Rattle.claims.proofs.Steps.{steps}
 use Rattle.claims.proofs.Ages.{ages-add}
@@ -127,23 +117,12 @@ pub record Claims (s : Server) : Type 0 where
   pub layout : TableLayout
   -- a slot written, and all else as it was
   pub slot : OneSlot
-  -- a table with held is sound exactly if it is a sound plain table with each listed address's count beside its line
-  pub held_counts : HeldCounts
-  -- both moves, and demand 3's facts from the moved table on
-  pub moves : Moves s
-  pub moved_on : MovedOn s
-  -- answers are the same with held and without it, call by call
-  pub same_answers : SameAnswers s
-  -- what a datagram or a tick leaves in the table's bytes
-  pub bytes_kept : BytesKept s
   -- a call's numbers and bytes are settled, and so are the public contracts
   pub calls : CallsExactly s
   pub contracts : ContractsExactly
   -- thirty wrong servers break a claim each
   pub refuted : Refuted
-  -- and so do six that write, check, use or move held wrongly
-  pub held_refuted : HeldRefuted
-  -- one of the thirty passes what `LiveAge` says by the places that a table holds
+  -- one of them passes what `LiveAge` says by the places that a table holds
   pub own_places : OwnPlaces
 
 pub claims : Claims model
@@ -184,14 +163,8 @@ claims =
       numbers_in_bytes = numbers-in-bytes;
       layout = table-layout;
       slot = one-slot;
-      held_counts = held-counts;
-      moves = moves;
-      moved_on = moved_on_lem;
-      same_answers = same-answers;
-      bytes_kept = bytes-kept;
       calls = calls-exactly model;
       contracts = contracts-exactly;
       refuted = refuted;
-      held_refuted = held-refuted;
       own_places = own-places;
     }

@@ -9,11 +9,8 @@ calls-exactly s =
       ticks = λ c before after n k. (λ m. (m.number, m.freed, m.table), λ m. record { number = m.0; freed = m.1; table = m.2 });
       serves = λ c before after lent left n k.
           (λ m. (m.number, m.length, m.table, m.reply), λ m. record { number = m.0; length = m.1; table = m.2; reply = m.3 });
-      moves = λ move source before after n. (λ m. (m.number, m.table), λ m. record { number = m.0; table = m.1 });
     }
 
 -- the contracts are those of the model's server
 pub contracts-exactly : ContractsExactly
-contracts-exactly =
-    let s = calls-exactly model in
-    record { makes = s.makes; ticks = s.ticks; serves = s.serves; to_held = s.moves model.to_held; from_held = s.moves model.from_held }
+contracts-exactly = let s = calls-exactly model in record { makes = s.makes; ticks = s.ticks; serves = s.serves }

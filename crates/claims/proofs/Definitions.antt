@@ -5,12 +5,12 @@ use Rattle.model.specs.Numbers.{encode, bytes_of, big_endian, part}
 use Rattle.model.specs.Names.{fold, name_size, lower_name}
 use Rattle.model.specs.Clock.{step, brought, advance}
 use Rattle.model.specs.Query.{good_header, name_at, good_question, question_at, question_start, good_questions, good_option, option_at, options_fill, options_from, good_opt, llq_options, llq_at, matched}
-use Rattle.model.specs.Table.{table_bytes, clock_bytes, of_address, roster_bytes, line_bytes, unused_line, slot_bytes, layout_of, read_table, read_slot, read_entry, read_line, listed}
+use Rattle.model.specs.Table.{table_bytes, clock_bytes, roster_bytes, line_bytes, unused_line, slot_bytes, layout_of, read_table, read_slot, read_entry, read_line, listed}
 use Rattle.model.specs.Rules.{entries_of, limit_of, share_of, reserve, shares, full, fresh_number}
 use Rattle.model.specs.Sound.{sound_table, sound_roster, sound_holdings, sound_bytes}
 use Rattle.model.specs.Serve.{slot_run_out, moved_on, has, find_entry, kind_of_option, on_setup, serve_setup, on_response, serve_response, on_refresh, serve_refresh, serve_kind}
 use Rattle.model.specs.Reply.{header_bytes, opt_bytes, option_bytes, reply_bytes, reply_options}
-use Rattle.model.specs.Calls.{refusal, table_length, good_roster, make_refusal, fresh_table, make, tick_refusal, freed_by, tick, serve_refusal, table_before, outcome_of, table_after, outcomes, serve, move_refusal, move_to}
+use Rattle.model.specs.Calls.{refusal, table_length, good_roster, make_refusal, fresh_table, make, tick_refusal, freed_by, tick, serve_refusal, table_before, outcome_of, table_after, outcomes, serve}
 use Rattle.claims.specs.Tally.{move_tally, held_in, line_of, reserve_in, is_full, number_used, first_unused, option_tally, option_outcome, tally_before, judged, tally_after}
 use Rattle.claims.specs.Impostors.{table_with}
 
@@ -35,7 +35,7 @@ unfolding good_header name_at good_question question_at question_start good_ques
 query-definitions = Unit {0}
 
 table-definitions : Type 0
-unfolding table_bytes clock_bytes of_address roster_bytes line_bytes unused_line slot_bytes layout_of read_table read_slot read_entry read_line listed
+unfolding table_bytes clock_bytes roster_bytes line_bytes unused_line slot_bytes layout_of read_table read_slot read_entry read_line listed
 table-definitions = Unit {0}
 
 rule-definitions : Type 0
@@ -55,7 +55,7 @@ unfolding header_bytes opt_bytes option_bytes reply_bytes reply_options
 reply-definitions = Unit {0}
 
 call-definitions : Type 0
-unfolding refusal table_length good_roster make_refusal fresh_table make tick_refusal freed_by tick serve_refusal table_before outcome_of table_after outcomes serve move_refusal move_to
+unfolding refusal table_length good_roster make_refusal fresh_table make tick_refusal freed_by tick serve_refusal table_before outcome_of table_after outcomes serve
 call-definitions = Unit {0}
 
 -- THE MODEL'S

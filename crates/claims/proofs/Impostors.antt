@@ -14,7 +14,7 @@ use Rattle.model.specs.Numbers.{Bytes, part}
 use Rattle.model.specs.Names.{fold}
 use Rattle.model.specs.Clock.{Clock, ten_bit, thirteen_bit, cycle_of, step, slack, moved, advance}
 use Rattle.model.specs.Query.{Question, LlqOption, name_at, question_at, question_start, question, llq_option, qdcount, matched}
-use Rattle.model.specs.Table.{Entry, Slot, plain, free, held, Table, cycle_in, table_bytes, read_table}
+use Rattle.model.specs.Table.{Entry, Slot, free, held, Table, cycle_in, table_bytes, read_table}
 use Rattle.model.specs.Rules.{Holding, holdings}
 use Rattle.model.specs.Serve.{Sender, Kind, bad_version, bad_format, setup, response, refresh, with_clock, free_run_out, moved_on, find_entry, slot_of, establish, answers, on_setup, on_response, serve_response, serve_kind, serve_option}
 use Rattle.model.specs.Reply.{reply_bytes, reply_length, mismatch}
@@ -45,7 +45,7 @@ use Rattle.claims.proofs.CallBuilders.{are_bytes, bytes-by-test, sound-by-test, 
 use Rattle.claims.proofs.LiveAge.SlotSteps.{same_self}
 
 -- of the entries that agree with a tally as many pass a test
-pub as-many-by : (p : Holding → Bool) (b : List ℕ) (y : _) (g : Agrees b y) → count (holdings (read_table b)) p ≡ count y.holdings p
+as-many-by : (p : Holding → Bool) (b : List ℕ) (y : _) (g : Agrees b y) → count (holdings (read_table b)) p ≡ count y.holdings p
 as-many-by p b y g = ap (λ (t : Table). count (holdings t) p) (read-stored b g.stored) ∙ perm-alike g.entries p
 
 as_many : (b : List ℕ) (y : _) (g : Agrees b y) → count (holdings (read_table b)) any ≡ count y.holdings any
@@ -148,7 +148,7 @@ only_entry established lease stamp =
     record { established = established; address = 5; port = 1; number = 7; lease = lease; stamp = stamp; qtype = 12; qclass = 1; name = 1 ∷ 97 ∷ 0 ∷ [] }
 
 abbrev only_table : ℕ → Entry → Table
-only_table running e = record { layout = record { weeks = ten_bit; lines = plain }; clock = record { place = 0; running = running }; roster = []; slots = held e ∷ [] }
+only_table running e = record { layout = record { weeks = ten_bit }; clock = record { place = 0; running = running }; roster = []; slots = held e ∷ [] }
 
 -- a pending entry is not itself established
 slot_state : Slot → Bool
@@ -370,7 +370,7 @@ abbrev aged_entry : Entry
 aged_entry = only_entry false 3600 0
 
 abbrev aged_bytes : List ℕ
-aged_bytes = table_bytes (record { layout = record { weeks = ten_bit; lines = plain }; clock = record { place = 100; running = 140 }; roster = []; slots = held aged_entry ∷ [] })
+aged_bytes = table_bytes (record { layout = record { weeks = ten_bit }; clock = record { place = 100; running = 140 }; roster = []; slots = held aged_entry ∷ [] })
 
 -- what the claim says of it
 ticked-back : (s : Server) → Ticking s → (s.tick (tick_at 0 30) aged_bytes).number ≡ 0

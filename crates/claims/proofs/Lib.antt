@@ -20,14 +20,8 @@ pub mod NumbersInBytes
 pub mod GrantedNumbers
 pub mod Reading
 pub mod AnySound
-pub mod HeldForm
-pub mod HeldCounts
-pub mod Moves
-pub mod SameAnswers
-pub mod BytesKept
 pub mod CallBuilders
 pub mod Impostors
-pub mod HeldImpostors
 pub mod OwnPlaces
 pub mod StoredNames
 pub mod SoundRules

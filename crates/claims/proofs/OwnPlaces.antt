@@ -32,10 +32,11 @@ use Rattle.claims.specs.AnySound.{tally_of}
 use Rattle.claims.specs.Impostors.{Parts, moves_by, table_with, tick_with, serve_with, on_back, move_back, set_to, keeps_always, OwnPlaces}
 use Rattle.claims.proofs.AcceptedCalls.{tick-accepted, serve-accepted}
 use Rattle.claims.proofs.Refusals.{refusals}
+use Rattle.claims.proofs.Demand3.TallyLaws.{before-cycle}
 use Rattle.claims.proofs.Demand3.CallSteps.{kept-stored, kept_step}
 use Rattle.claims.proofs.Relation.MoveKeeps.{move-keeps}
-use Rattle.claims.proofs.Relation.DatagramKeeps.{done-le, datagram-keeps, layout-before}
-use Rattle.claims.proofs.Relation.TableTally.{related-read, read_back}
+use Rattle.claims.proofs.Relation.DatagramKeeps.{done-le, datagram-keeps}
+use Rattle.claims.proofs.Relation.TableTally.{related-read, same_layout, read_back}
 use Rattle.claims.proofs.LiveAge.AgeSteps.{kept_self, age-step, since-stamped}
 
 -- ANOTHER PLACE in a table's clock
@@ -244,7 +245,7 @@ serve-beside b c lent k n after left s range h = go (serve_refusal c b) refl
     go zero e =
         let q = serve-accepted c b e in
         let r = datagram-keeps c t (tally_of t) range q.reading q.questions (related-read b s) (done_options c) (done-le c) in
-        let layout-left = layout-before c t (tally_of t) range q.reading q.questions (related-read b s) (done_options c) (done-le c) in
+        let layout-left = same_layout t u (tally_of t) (tally_before c (tally_of t) (done_options c)) (related-read b s) r (before-cycle c (tally_of t) (done_options c)) in
         answered b (served c lent k n after left) (other 0) (happens 0 e) range (steps 0 (h.1.number ∙ ap (λ (x : ℕ). (serve_with parts x c b lent).number) e))
         (move_back set_to (cycle_in t) t.clock at).place u (rw layout-left (own-place (cycle_in t) t.clock at (placed t.layout.weeks c.week c.second q.reading))) r.sound r.fits
         (ap (λ (x : Answered). read_table x.table) (serve-answered c b lent e) ∙ read_back u (tally_before c (tally_of t) (done_options c)) r)

@@ -9,7 +9,7 @@ use lib.Dec.{eqb, leb}
 use borrow.Author.Tests.{eqb-true, eqb-false, eq-eqb, ne_eqb, leb-true, le-leb, ltb-true, lt-ltb, not-true}
 use Rattle.model.specs.Lists.{bit, count}
 use Rattle.model.specs.Clock.{Weeks, ten_bit, thirteen_bit, cycle_of, age_at}
-use Rattle.model.specs.Table.{Line, Entry, Slot, free, held, Table, of_address, held_of}
+use Rattle.model.specs.Table.{Line, Entry, Slot, free, held, Table}
 use Rattle.model.specs.Rules.{Holding, holding, holdings, entries_of, held_by, numbered, reserve, shares}
 use Rattle.model.specs.Sound.{valid_line, non_zero_number, valid_lease, live, valid_name, same_question, Sound}
 use Rattle.model.specs.Serve.{is_free, has}
@@ -45,16 +45,6 @@ cycle-with ten_bit = refl
 cycle-with thirteen_bit = refl
 
 -- HOW MANY
-
-pub held-count : (s : List Slot) (a : ℕ) → held_slots s a ≡ held_of s a
-unfolding held_slots of_address
-held-count [] a = refl
-held-count (free ∷ s) a = omega (arith, held-count s a)
-held-count (held e ∷ s) a = go (eqb e.address a) (held-count s a)
-  where
-    go : (v : Bool) → held_slots s a ≡ held_of s a → cond v (1 + held_slots s a) (held_slots s a) ≡ bit v + held_of s a
-    go true h = omega arith
-    go false h = omega arith
 
 held-slots : (r : ℕ) (s : List Slot) (a : ℕ) → held_slots s a ≡ count (entries_of r s) (held_by a)
 unfolding held_slots entries_of

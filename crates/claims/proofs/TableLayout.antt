@@ -1,5 +1,5 @@
 -- The table's layout, place by place, of the model's encoder and reader. Assumes nothing.
-use Prim.Native.Nat.{ℕ, zero, suc, ◌+◌, ◌-◌, ◌*◌, ◌%◌, ◌^◌, ◌≤◌, ◌<◌}
+use Prim.Native.Nat.{ℕ, zero, suc, ◌+◌, ◌-◌, ◌*◌, ◌^◌, ◌≤◌, ◌<◌}
 use native.Mathlib.Nat.{add-zero, add_assoc}
 use native.Mathlib.Omega.{arith}
 use mathlib.Core.Path.{◌≡◌, refl, sym, ap, ◌∙◌, subst}
@@ -8,60 +8,31 @@ use mathlib.Core.List.{List, [], ◌∷◌, ◌++◌, append_assoc, append-nil}
 use mathlib.Core.Logic.{⊎_elim}
 use lib.ListN.{length, get_or, take, drop, replicate, get_or-append, length-append, get_or-replicate}
 use lib.Seq.{get_or-append-add, ext_get_or}
-use lib.Dec.{ltb, lit≤, lit<}
+use lib.Dec.{ltb, lit<}
 use borrow.Author.Tests.{ltb-true, ltb-false}
 use Rattle.model.specs.Lists.{up_to, flat}
 use Rattle.model.specs.Numbers.{Bytes, big_endian, bytes_of, part, encode}
 use Rattle.model.specs.Clock.{Weeks, ten_bit, thirteen_bit}
-use Rattle.model.specs.Table.{Line, LineForm, plain, counted, Entry, Slot, free, held, Layout, Table, line_size, listed_kind, unused_kind, held_of, clock_kind, place_bytes, running_at, lines_at, base, line_at, slot_at, size_of, entry_fields, kind_of, clock_bytes, line_bytes, unused_line, slot_bytes, roster_bytes, table_bytes, read_line, read_entry}
+use Rattle.model.specs.Table.{Line, Entry, Slot, free, held, Layout, Table, clock_kind, place_bytes, running_at, lines_at, base, line_at, slot_at, size_of, entry_fields, kind_of, clock_bytes, line_bytes, unused_line, slot_bytes, roster_bytes, table_bytes, read_line, read_entry}
 use Rattle.model.specs.Sound.{FitsLine, FitsEntry, FitsSlot, Fits}
 use Rattle.model.proofs.ListLaws.{test, length-flat, length-up_to}
 use Rattle.model.proofs.NumberLaws.{big_lt, bytes-big, big-ext, big-one, get_d_part, length-encode, encode-first}
-use Rattle.model.proofs.SlotLaws.{length-line, length-unused, kind-lt, entry-back, line-kind, line-back, field-behind}
-use Rattle.model.proofs.TableLaws.{row_of, flat-cut, length_front, length-clock, bytes-table, fits-rows, length-head, length-table, clock_fields, clock-starts}
+use Rattle.model.proofs.SlotLaws.{length-line, length-unused, kind-lt, entry-back, line-back, field-behind}
+use Rattle.model.proofs.TableLaws.{flat-cut, length_front, length-roster, length-clock, bytes-table, fits-rows, length-table, clock_fields, clock-starts}
 use Rattle.model.proofs.RoundTrip.{no_line, table-back}
 use Rattle.claims.specs.NumbersInBytes.{value_at}
 use Rattle.claims.specs.SoundRules.{line_in}
-use Rattle.claims.specs.TableLayout.{ClockRecord, LineRecord, HeldByte, ZeroRecord, EntryRecord, SlotRecord, Places, offsets_of, RecordsAt, TableRecords, TableLayout}
+use Rattle.claims.specs.TableLayout.{ClockRecord, LineRecord, ZeroRecord, EntryRecord, SlotRecord, Places, offsets_of, RecordsAt, TableRecords, TableLayout}
 use Rattle.claims.proofs.NumbersInBytes.{all-bytes, value-is}
-use Rattle.claims.proofs.SoundRules.{held-count, sound-exactly}
+use Rattle.claims.proofs.SoundRules.{sound-exactly}
 
 -- THE PLACES of the model's layout, which are those written out
 abbrev model_places : Layout → Places
-model_places l =
-    record {
-      kind = clock_kind l;
-      width = place_bytes l;
-      running = running_at l;
-      lines = lines_at l;
-      line = line_size l.lines;
-      listed = listed_kind l.lines;
-      unused = unused_kind l.lines;
-      slots = base l;
-    }
+model_places l = record { kind = clock_kind l; width = place_bytes l; running = running_at l; lines = lines_at l; slots = base l }
 
-places-are : (w : Weeks) (f : LineForm) → model_places (record { weeks = w; lines = f }) ≡ offsets_of w f
-places-are ten_bit plain = refl
-places-are ten_bit counted = refl
-places-are thirteen_bit plain = refl
-places-are thirteen_bit counted = refl
-
--- a line has 19 bytes at least; rows of lines by their number
-line-least : (f : LineForm) → 19 ≤ line_size f
-line-least plain = lit≤ tt
-line-least counted = lit≤ tt
-
-whole-line : (f : LineForm) → line_size f ≡ 1 + (line_size f - 1)
-whole-line plain = refl
-whole-line counted = refl
-
-line-rest : (f : LineForm) (m i : ℕ) → m ≤ i → line_size f * m + line_size f * (i - m) ≡ line_size f * i
-line-rest plain m i h = omega arith
-line-rest counted m i h = omega arith
-
-line-inside : (f : LineForm) (i : ℕ) → i < 16 → line_size f * i + line_size f ≤ line_size f * 16
-line-inside plain i h = omega arith
-line-inside counted i h = omega arith
+places-are : (w : Weeks) → model_places (record { weeks = w }) ≡ offsets_of w
+places-are ten_bit = refl
+places-are thirteen_bit = refl
 
 -- ---- THE TABLE'S BYTES ARE LAID OUT SO
 
@@ -93,37 +64,24 @@ first_byte : (b xs : List ℕ) (at w : ℕ) → Record b at w xs → 0 < w → g
 unfolding Record
 first_byte b xs at w r h = ap (λ (j : ℕ). get_or b j 0) (sym (add-zero at)) ∙ r 0 h
 
-line-laid : (f : LineForm) (h : ℕ) (b : List ℕ) (at : ℕ) (l : Line) → FitsLine l → Record b at (line_size f) (line_bytes f h l) → LineRecord (listed_kind f) b at l
-unfolding Record read_line
-line-laid f h b at l v r =
-    let w = line-least f in
-    let bytes = line_bytes f h l in
-    let same : bytes ++ [] ≡ bytes = append-nil bytes in
-    let first : get_or (bytes ++ []) 0 0 ≡ listed_kind f = line-kind [] 0 f h l [] refl v in
-    let back : read_line (bytes ++ []) 0 ≡ l = line-back [] 0 f h l [] refl v in
-    let read : read_line bytes 0 ≡ l = rw same at back in
+line-laid : (b : List ℕ) (at : ℕ) (l : Line) → FitsLine l → Record b at 19 (line_bytes l) → LineRecord b at l
+unfolding Record line_bytes read_line
+line-laid b at l f r =
+    let back : read_line (line_bytes l ++ []) 0 ≡ l = line-back [] 0 l [] refl f in
+    let same : line_bytes l ++ [] ≡ line_bytes l = append-nil (line_bytes l) in
+    let read : read_line (line_bytes l) 0 ≡ l = rw same at back in
     record {
-      kind = first_byte b bytes at (line_size f) r (omega arith) ∙ (rw same at first);
-      address = number_in b bytes at (line_size f) 1 16 r (omega arith) ∙ ap (λ (x : Line). x.address) read;
-      share = r 17 (omega arith) ∙ ap (λ (x : Line). x.share) read;
-      limit = r 18 (omega arith) ∙ ap (λ (x : Line). x.limit) read;
+      kind = first_byte b (line_bytes l) at 19 r (lit< tt) ∙ (rw (encode-first 3 ((16, l.address) ∷ (1, l.share) ∷ (1, l.limit) ∷ []) (lit< tt)));
+      address = number_in b (line_bytes l) at 19 1 16 r (lit< tt) ∙ ap (λ (x : Line). x.address) read;
+      share = r 17 (lit< tt) ∙ ap (λ (x : Line). x.share) read;
+      limit = r 18 (lit< tt) ∙ ap (λ (x : Line). x.limit) read;
     }
 
--- held, where it is kept
-held-byte : (h : ℕ) (l : Line) → get_or (line_bytes counted h l) 19 0 ≡ h % 256
-unfolding line_bytes encode bytes_of
-held-byte h l = refl
-
-held-laid : (f : LineForm) (s : List Slot) (b : List ℕ) (at : ℕ) (l : Line) → Record b at (line_size f) (row_of f (held_of s) l) → HeldByte f b at s l
-unfolding Record
-held-laid plain s b at l r = tt
-held-laid counted s b at l r = r 19 (lit< tt) ∙ held-byte (held_of s l.address) l ∙ ap (λ (k : ℕ). k % 256) (sym (held-count s l.address))
-
-zeros-laid : (b : List ℕ) (at first body : ℕ) → Record b at (1 + body) (first ∷ replicate body 0) → ZeroRecord b at first body
+zeros-laid : (b : List ℕ) (at first body : ℕ) → Record b at (suc body) (first ∷ replicate body 0) → ZeroRecord b at first body
 unfolding Record
 zeros-laid b at first body r =
     record {
-      kind = first_byte b (first ∷ replicate body 0) at (1 + body) r (omega arith);
+      kind = first_byte b (first ∷ replicate body 0) at (suc body) r (omega arith);
       zeros = λ i h.
           let e : at + 1 + i ≡ at + suc i = omega arith in
           ap (λ (j : ℕ). get_or b j 0) e ∙ r (suc i) (omega arith) ∙ get_or-replicate body i 0 0 h;
@@ -185,54 +143,45 @@ slot-laid b at free f r = zeros-laid b at 4 319 r
 slot-laid b at (held e) f r = entry-laid b at e f r
 
 module _ (t : Table) (few : length t.roster ≤ 16) (f : Fits t) where
-  abbrev F : LineForm
-  F = t.layout.lines
-
-  abbrev line_row : Line → List ℕ
-  line_row = row_of F (held_of t.slots)
-
-  row-length : (i : ℕ) (d : Line) → i < length t.roster → length (line_row (get_or t.roster i d)) ≡ line_size F
-  row-length i d h = length-line F (held_of t.slots (get_or t.roster i d).address) (get_or t.roster i d)
-
   abbrev line_rows : List ℕ
-  line_rows = flat line_row t.roster
+  line_rows = flat line_bytes t.roster
 
   abbrev spare : List ℕ
   spare = up_to (16 - length t.roster) (λ i. i)
 
   abbrev spare_rows : List ℕ
-  spare_rows = flat (λ (i : ℕ). unused_line F) spare
+  spare_rows = flat (λ (i : ℕ). unused_line) spare
 
   abbrev slot_rows : List ℕ
   slot_rows = flat slot_bytes t.slots
 
-  line-record : (i : ℕ) → i < length t.roster → Record (table_bytes t) (line_at t.layout i) (line_size F) (line_row (line_in t.roster i))
+  line-record : (i : ℕ) → i < length t.roster → Record (table_bytes t) (line_at t.layout i) 19 (line_bytes (line_in t.roster i))
   unfolding table_bytes roster_bytes
   line-record i h =
       rw append_assoc
-      (row line_row (line_size F) t.roster row-length (clock_bytes t.layout t.clock) (spare_rows ++ slot_rows) (lines_at t.layout) i no_line
+      (row line_bytes 19 t.roster (λ i d l. length-line (get_or t.roster i d)) (clock_bytes t.layout t.clock) (spare_rows ++ slot_rows) (lines_at t.layout) i no_line
       (length-clock t.layout t.clock) h)
 
-  unused-record : (i : ℕ) → length t.roster ≤ i → i < 16 → Record (table_bytes t) (line_at t.layout i) (line_size F) (unused_line F)
+  unused-record : (i : ℕ) → length t.roster ≤ i → i < 16 → Record (table_bytes t) (line_at t.layout i) 19 unused_line
   unfolding table_bytes roster_bytes
   unused-record i l h =
       let m = length t.roster in
       let p = clock_bytes t.layout t.clock ++ line_rows in
       let pk : length p ≡ line_at t.layout m =
       length-append (clock_bytes t.layout t.clock) line_rows
-      ∙ (rw (length-clock t.layout t.clock, length-flat line_row (line_size F) t.roster row-length)) in
+      ∙ (rw (length-clock t.layout t.clock, length-flat line_bytes 19 t.roster (λ i d l. length-line (get_or t.roster i d)))) in
       let w : i - m < length spare = rw (length-up_to (16 - m) (λ i. i)) (omega arith) in
-      let at : line_at t.layout m + line_size F * (i - m) ≡ line_at t.layout i = omega (arith, line-rest F m i l) in
+      let at : line_at t.layout m + 19 * (i - m) ≡ line_at t.layout i = omega arith in
       let whole : p ++ (spare_rows ++ slot_rows) ≡ clock_bytes t.layout t.clock ++ ((line_rows ++ spare_rows) ++ slot_rows) = simp append_assoc in
-      rw (at, whole) at (row (λ (i : ℕ). unused_line F) (line_size F) spare (λ i d l. length-unused F) p slot_rows (line_at t.layout m) (i - m) 0 pk w)
+      rw (at, whole) at (row (λ (i : ℕ). unused_line) 19 spare (λ i d l. length-unused) p slot_rows (line_at t.layout m) (i - m) 0 pk w)
 
   slot-record : (j : ℕ) → j < length t.slots → Record (table_bytes t) (slot_at t.layout j) 320 (slot_bytes (get_or t.slots j free))
   unfolding table_bytes
   slot-record j h =
-      let lines = roster_bytes F (held_of t.slots) t.roster in
-      let p = clock_bytes t.layout t.clock ++ lines in
-      let whole : p ++ (slot_rows ++ []) ≡ clock_bytes t.layout t.clock ++ (lines ++ slot_rows) = rw (append-nil slot_rows) (simp append_assoc) in
-      rw whole at (row slot_bytes 320 t.slots (fits-rows t few f) p [] (base t.layout) j free (length-head t few f (held_of t.slots)) h)
+      let p = clock_bytes t.layout t.clock ++ roster_bytes t.roster in
+      let pk : length p ≡ base t.layout = length-append (clock_bytes t.layout t.clock) (roster_bytes t.roster) ∙ (rw (length-clock t.layout t.clock, length-roster t.roster few)) in
+      let whole : p ++ (slot_rows ++ []) ≡ clock_bytes t.layout t.clock ++ (roster_bytes t.roster ++ slot_rows) = rw (append-nil slot_rows) (simp append_assoc) in
+      rw whole at (row slot_bytes 320 t.slots (fits-rows t few f) p [] (base t.layout) j free pk h)
 
   clock-laid : ClockRecord (model_places t.layout) (table_bytes t) t.clock
   unfolding table_bytes clock_bytes
@@ -240,7 +189,7 @@ module _ (t : Table) (few : length t.roster ≤ 16) (f : Fits t) where
       let b = table_bytes t in
       let l = t.layout in
       let fs : List (ℕ × ℕ) = (1, clock_kind l) ∷ clock_fields l t.clock in
-      let rest = roster_bytes F (held_of t.slots) t.roster ++ slot_rows in
+      let rest = roster_bytes t.roster ++ slot_rows in
       record {
         kind = rw (clock-starts l t.clock);
         place = sym (value-is b 1 (place_bytes l)) ∙ field-behind [] 0 fs rest 1 refl (lit< tt) f.place;
@@ -255,11 +204,8 @@ module _ (t : Table) (few : length t.roster ≤ 16) (f : Fits t) where
         size = length-table t few f;
         octets = λ i h. bytes-table t f i;
         clock = clock-laid;
-        listed = λ i h. let l = line_in t.roster i in line-laid F (held_of t.slots l.address) (table_bytes t) (line_at t.layout i) l (f.lines i h) (line-record i h);
-        held = λ i h. held-laid F t.slots (table_bytes t) (line_at t.layout i) (line_in t.roster i) (line-record i h);
-        unused = λ i l h.
-            let at = line_at t.layout i in
-            zeros-laid (table_bytes t) at (unused_kind F) (line_size F - 1) (subst (λ (w : ℕ). Record (table_bytes t) at w (unused_line F)) (whole-line F) (unused-record i l h));
+        listed = λ i h. line-laid (table_bytes t) (line_at t.layout i) (line_in t.roster i) (f.lines i h) (line-record i h);
+        unused = λ i l h. zeros-laid (table_bytes t) (line_at t.layout i) 2 18 (unused-record i l h);
         slots = λ j h. slot-laid (table_bytes t) (slot_at t.layout j) (get_or t.slots j free) (f.slots j h) (slot-record j h);
       }
 
@@ -272,8 +218,8 @@ value-lt b at k o e = rw (← e, ← value-is b at k) (big_lt b at k o)
 byte-lt : (b : List ℕ) (at : ℕ) {x : ℕ} → Bytes b → get_or b at 0 ≡ x → x < 256
 byte-lt b at o e = rw (← e) (o at)
 
-line-fits : (b : List ℕ) (first at : ℕ) (l : Line) → Bytes b → LineRecord first b at l → FitsLine l
-line-fits b first at l o r =
+line-fits : (b : List ℕ) (at : ℕ) (l : Line) → Bytes b → LineRecord b at l → FitsLine l
+line-fits b at l o r =
     record {
       address = value-lt b (at + 1) 16 o r.address;
       share = byte-lt b (at + 17) o r.share;
@@ -304,7 +250,7 @@ module _ (b : List ℕ) (t : Table) (r : RecordsAt (model_places t.layout) b t) 
       record {
         place = value-lt b 1 (place_bytes t.layout) laid-bytes r.clock.place;
         running = value-lt b (running_at t.layout) 4 laid-bytes r.clock.running;
-        lines = λ i h. line-fits b (listed_kind t.layout.lines) (line_at t.layout i) (line_in t.roster i) laid-bytes (r.listed i h);
+        lines = λ i h. line-fits b (line_at t.layout i) (line_in t.roster i) laid-bytes (r.listed i h);
         slots = λ j h. slot-fits b (slot_at t.layout j) (get_or t.slots j free) laid-bytes (r.slots j h);
       }
 
@@ -350,20 +296,12 @@ module _ (b c : List ℕ) where
     unfolding Alike
     same-zeros at first body x y = join at 1 body (one at x.kind y.kind) (λ i h. x.zeros i h ∙ sym (y.zeros i h))
 
-    same_line : (f : LineForm) (s : List Slot) (at : ℕ) (l : Line) → at + line_size f ≤ length b → LineRecord (listed_kind f) b at l → LineRecord (listed_kind f) c at l
-        → HeldByte f b at s l → HeldByte f c at s l → Alike at (line_size f)
-    same_line f s at l h x y u v = go f h u v
-      where
-        body : at + 19 ≤ length b → Alike at 19
-        body h =
-            join at 18 1
-            (join at 17 1 (join at 1 16 (one at x.kind y.kind) (number (at + 1) 16 (omega arith) x.address y.address))
-            (one (at + 17) x.share y.share))
-            (one (at + 18) x.limit y.limit)
-
-        go : (g : LineForm) → at + line_size g ≤ length b → HeldByte g b at s l → HeldByte g c at s l → Alike at (line_size g)
-        go plain h u v = body h
-        go counted h u v = join at 19 1 (body (omega arith)) (one (at + 19) u v)
+    same_line : (at : ℕ) (l : Line) → at + 19 ≤ length b → LineRecord b at l → LineRecord c at l → Alike at 19
+    same_line at l h x y =
+        join at 18 1
+        (join at 17 1 (join at 1 16 (one at x.kind y.kind) (number (at + 1) 16 (omega arith) x.address y.address))
+        (one (at + 17) x.share y.share))
+        (one (at + 18) x.limit y.limit)
 
     same_name : (at : ℕ) (e : Entry) → EntryRecord b at e → EntryRecord c at e → Alike (at + 40) 280
     unfolding Alike
@@ -402,19 +340,17 @@ module _ (b c : List ℕ) (t : Table) (few : length t.roster ≤ 16) (x : Record
   sizes : length b ≡ length c
   sizes = x.size ∙ sym y.size
 
-  same_lines : (i : ℕ) → i < 16 → Alike b c (line_at t.layout i) (line_size t.layout.lines)
+  same_lines : (i : ℕ) → i < 16 → Alike b c (line_at t.layout i) 19
   same_lines i h =
-      let f = t.layout.lines in
-      let at = line_at t.layout i in
       let ob = laid-bytes b t x in
       let oc = laid-bytes c t y in
       ⊎_elim
       (λ (z : ltb i (length t.roster) ≡ true).
       let l = ltb-true i (length t.roster) z in
-      same_line b c sizes ob oc f t.slots at (line_in t.roster i) (omega (arith, x.size, line-inside f i h)) (x.listed i l) (y.listed i l) (x.held i l) (y.held i l))
+      same_line b c sizes ob oc (line_at t.layout i) (line_in t.roster i) (omega (arith, x.size)) (x.listed i l) (y.listed i l))
       (λ (z : ltb i (length t.roster) ≡ false).
       let l = ltb-false i (length t.roster) z in
-      subst (Alike b c at) (sym (whole-line f)) (same-zeros b c sizes ob oc at (unused_kind f) (line_size f - 1) (x.unused i l h) (y.unused i l h)))
+      same-zeros b c sizes ob oc (line_at t.layout i) 2 18 (x.unused i l h) (y.unused i l h))
       (test (ltb i (length t.roster)))
 
   laid-once : b ≡ c
@@ -431,17 +367,17 @@ module _ (b c : List ℕ) (t : Table) (few : length t.roster ≤ 16) (x : Record
       (number b c sizes ob oc (running_at l) 4 (omega (arith, x.size)) x.clock.running y.clock.running) in
       let slots : Alike b c (base l) (320 * n) =
       rows b c (base l) 320 n (λ j h. same-slot b c sizes ob oc (slot_at t.layout j) (get_or t.slots j free) (omega (arith, x.size)) (x.slots j h) (y.slots j h)) in
-      let all : Alike b c 0 (size_of l n) = join_first b c (base l) (320 * n) (join_first b c (lines_at l) (line_size l.lines * 16) clock (rows b c (lines_at l) (line_size l.lines) 16 same_lines)) slots in
+      let all : Alike b c 0 (size_of l n) = join_first b c (base l) (320 * n) (join_first b c (lines_at l) 304 clock (rows b c (lines_at l) 19 16 same_lines)) slots in
       ext_get_or 0 b c sizes (λ i l. let e : 0 + i ≡ i = omega arith in rw e at (all i (omega (arith, x.size))))
 
 -- THE CLAIM
 
 -- at the model's places
 at-model : (b : List ℕ) (t : Table) → TableRecords b t → RecordsAt (model_places t.layout) b t
-at-model b t r = subst (λ (p : Places). RecordsAt p b t) (sym (places-are t.layout.weeks t.layout.lines)) r
+at-model b t r = subst (λ (p : Places). RecordsAt p b t) (sym (places-are t.layout.weeks)) r
 
 written-laid : (b : List ℕ) (t : Table) → length t.roster ≤ 16 → Fits t → table_bytes t ≡ b → TableRecords b t
-written-laid b t few f e = rw (e, places-are t.layout.weeks t.layout.lines) at (table-laid t few f)
+written-laid b t few f e = rw (e, places-are t.layout.weeks) at (table-laid t few f)
 
 laid-written : (b : List ℕ) (t : Table) → length t.roster ≤ 16 → TableRecords b t → table_bytes t ≡ b
 laid-written b t few r = let m = at-model b t r in laid-once (table_bytes t) b t few (table-laid t few (laid-fits b t m)) m

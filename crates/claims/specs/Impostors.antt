@@ -11,7 +11,7 @@ use Rattle.model.specs.Rules.{Holding, holdings, asks, numbered, limit_of, share
 use Rattle.model.specs.Serve.{Sender, Outcome, Served, Kind, bad_version, bad_format, setup, response, refresh, is_free, find_entry, slot_of, with_clock, with_slots, with_slot, free_run_out, moved_on, kind_of_option, serve_option, serve_kind, on_setup, on_response, life_left, right_lease, answers, challenge, retry_later, granted, establish}
 use Rattle.model.specs.Sound.{sound_bytes}
 use Rattle.model.specs.Reply.{reply_bytes, reply_length, mismatch}
-use Rattle.model.specs.Calls.{MakeCall, TickCall, ServeCall, Made, Ticked, Answered, Moved, refusal, made_by, ticked_by, served_by, tick, serve, make_refusal, fresh_table, tick_refusal, serve_refusal}
+use Rattle.model.specs.Calls.{MakeCall, TickCall, ServeCall, Made, Ticked, Answered, refusal, made_by, ticked_by, served_by, tick, serve, make_refusal, fresh_table, tick_refusal, serve_refusal}
 use Rattle.model.specs.Meets.{Server, model}
 use Rattle.claims.specs.Pins.{challenge_reply, Pinned}
 use Rattle.claims.specs.Refusals.{Refusals}
@@ -26,16 +26,13 @@ use Rattle.claims.specs.Samples.{ClockSamples, WideSamples, NameSamples, read_by
 
 -- A SERVER WITH ONE CALL OF ITS OWN, the others those of the server given: a further call is one line in each
 abbrev pub with_make : Server → (MakeCall → List ℕ → Made) → Server
-with_make s f = record { make = f; tick = s.tick; serve = s.serve; to_held = s.to_held; from_held = s.from_held }
+with_make s f = record { make = f; tick = s.tick; serve = s.serve }
 
 abbrev pub with_tick : Server → (TickCall → List ℕ → Ticked) → Server
-with_tick s f = record { make = s.make; tick = f; serve = s.serve; to_held = s.to_held; from_held = s.from_held }
+with_tick s f = record { make = s.make; tick = f; serve = s.serve }
 
 abbrev pub with_serve : Server → (ServeCall → List ℕ → List ℕ → Answered) → Server
-with_serve s f = record { make = s.make; tick = s.tick; serve = f; to_held = s.to_held; from_held = s.from_held }
-
-abbrev pub with_to_held : Server → (List ℕ → List ℕ → Moved) → Server
-with_to_held s f = record { make = s.make; tick = s.tick; serve = s.serve; to_held = f; from_held = s.from_held }
+with_serve s f = record { make = s.make; tick = s.tick; serve = f }
 
 -- AN ANSWER WITH ONE PART OF ITS OWN, the others those of the answer given
 abbrev pub with_made_table : Made → List ℕ → Made
@@ -43,9 +40,6 @@ with_made_table a table = record { number = a.number; table = table }
 
 abbrev pub with_freed : Ticked → ℕ → Ticked
 with_freed a freed = record { number = a.number; freed = freed; table = a.table }
-
-abbrev pub with_ticked_table : Ticked → List ℕ → Ticked
-with_ticked_table a table = record { number = a.number; freed = a.freed; table = table }
 
 abbrev pub with_table : Answered → List ℕ → Answered
 with_table a table = record { number = a.number; length = a.length; table = table; reply = a.reply }
@@ -395,9 +389,9 @@ abbrev pub takes_wide_week : Server
 takes_wide_week =
     with_tick model (λ c b. ticked_by (refusal ((1, not (sound_bytes b)) ∷ (2, not (valid_reading thirteen_bit c.week c.second)) ∷ [])) c b)
 
--- makes the ten-bit layout in every buffer, so a record of kind 1 in one of 317 or 333 + 320n bytes; the bytes behind it stay
+-- makes the ten-bit layout in every buffer, so a record of kind 1 in one of 317 + 320n bytes; the bytes behind it stay
 abbrev pub in_ten_bits : Table → Table
-in_ten_bits t = record { layout = record { weeks = ten_bit; lines = t.layout.lines }; clock = t.clock; roster = t.roster; slots = t.slots }
+in_ten_bits t = record { layout = record { weeks = ten_bit }; clock = t.clock; roster = t.roster; slots = t.slots }
 
 abbrev pub make_in_ten_bits : ℕ → MakeCall → List ℕ → Made
 make_in_ten_bits zero c b = let x = table_bytes (in_ten_bits (fresh_table c (length b))) in with_made_table (made_by 0 c b) (x ++ drop (length x) b)

@@ -30,8 +30,3 @@ pub mod Steps
 pub mod Ages
 pub mod Resumes
 pub mod Comparing
-pub mod HeldForm
-pub mod Moves
-pub mod SameAnswers
-pub mod BytesKept
-pub mod HeldImpostors

@@ -1,10 +1,9 @@
 -- W11, and the table's bytes after its making, its setup, its response and a refresh without RD; after its setup again and two late responses;
--- what ticks free when the clock is set back by a year; a table with weeks of thirteen bits, made and ticked; a table with held, made, asked, answered
--- and ended, and both moves of another; and, with both widths of the week, the bytes of a table whose numbers have no byte in common, written out from
--- the layout of documents 01 and 02. Assumes nothing.
+-- what ticks free when the clock is set back by a year; a table with weeks of thirteen bits, made and ticked; and, with both widths of the week,
+-- the bytes of a table whose numbers have no byte in common, written out from the layout of documents 01 and 02. Assumes nothing.
 use Rattle.std.specs.Prelude.{ℕ, ◌+◌, ◌≡◌, true, false, List, [], ◌∷◌, ◌++◌, length, replicate}
 use Rattle.model.specs.Clock.{Clock, Weeks, ten_bit, thirteen_bit}
-use Rattle.model.specs.Table.{plain, free, held, Table, table_bytes, read_table}
+use Rattle.model.specs.Table.{free, held, Table, table_bytes, read_table}
 use Rattle.model.specs.Serve.{Sender}
 use Rattle.model.specs.Calls.{MakeCall, TickCall, ServeCall}
 use Rattle.model.specs.Meets.{Server}
@@ -61,21 +60,21 @@ no_such_reply =
     ∷ 0 ∷ 0 ∷ 0x29 ∷ 0x05 ∷ 0xC0 ∷ 0 ∷ 0 ∷ 0 ∷ 0 ∷ 0 ∷ 0x16
     ∷ 0 ∷ 1 ∷ 0 ∷ 0x12 ∷ 0 ∷ 1 ∷ 0 ∷ 1 ∷ 0 ∷ 4 ∷ 0 ∷ 0 ∷ 0 ∷ 0 ∷ 0 ∷ 0 ∷ 0 ∷ 0 ∷ 0 ∷ 0 ∷ 0 ∷ 0 ∷ []
 
--- a refresh with RD 0, by the last two bytes of the lease asked
-abbrev pub refresh_of : ℕ → ℕ → List ℕ
-refresh_of high low =
+-- a refresh with RD 0, asking 7,200 seconds
+abbrev pub refresh_query : List ℕ
+refresh_query =
     0x13 ∷ 0x37 ∷ 0 ∷ 0 ∷ 0 ∷ 1 ∷ 0 ∷ 0 ∷ 0 ∷ 0 ∷ 0 ∷ 1
     ∷ 1 ∷ 0x61 ∷ 0 ∷ 0 ∷ 0x0C ∷ 0 ∷ 1
     ∷ 0 ∷ 0 ∷ 0x29 ∷ 0x05 ∷ 0xC0 ∷ 0 ∷ 0 ∷ 0 ∷ 0 ∷ 0 ∷ 0x16
-    ∷ 0 ∷ 1 ∷ 0 ∷ 0x12 ∷ 0 ∷ 1 ∷ 0 ∷ 2 ∷ 0 ∷ 0 ∷ 0 ∷ 0 ∷ 0 ∷ 0 ∷ 0 ∷ 0 ∷ 0 ∷ 7 ∷ 0 ∷ 0 ∷ high ∷ low ∷ []
+    ∷ 0 ∷ 1 ∷ 0 ∷ 0x12 ∷ 0 ∷ 1 ∷ 0 ∷ 2 ∷ 0 ∷ 0 ∷ 0 ∷ 0 ∷ 0 ∷ 0 ∷ 0 ∷ 0 ∷ 0 ∷ 7 ∷ 0 ∷ 0 ∷ 0x1C ∷ 0x20 ∷ []
 
--- its answer: 0x84 for the third byte, the number and the lease granted, by its last two bytes
-abbrev pub renewal_of : ℕ → ℕ → List ℕ
-renewal_of high low =
+-- its answer: 0x84 for the third byte, the number and the lease granted
+abbrev pub renewal_reply : List ℕ
+renewal_reply =
     0x13 ∷ 0x37 ∷ 0x84 ∷ 0 ∷ 0 ∷ 1 ∷ 0 ∷ 0 ∷ 0 ∷ 0 ∷ 0 ∷ 1
     ∷ 1 ∷ 0x61 ∷ 0 ∷ 0 ∷ 0x0C ∷ 0 ∷ 1
     ∷ 0 ∷ 0 ∷ 0x29 ∷ 0x05 ∷ 0xC0 ∷ 0 ∷ 0 ∷ 0 ∷ 0 ∷ 0 ∷ 0x16
-    ∷ 0 ∷ 1 ∷ 0 ∷ 0x12 ∷ 0 ∷ 1 ∷ 0 ∷ 2 ∷ 0 ∷ 0 ∷ 0 ∷ 0 ∷ 0 ∷ 0 ∷ 0 ∷ 0 ∷ 0 ∷ 7 ∷ 0 ∷ 0 ∷ high ∷ low ∷ []
+    ∷ 0 ∷ 1 ∷ 0 ∷ 0x12 ∷ 0 ∷ 1 ∷ 0 ∷ 2 ∷ 0 ∷ 0 ∷ 0 ∷ 0 ∷ 0 ∷ 0 ∷ 0 ∷ 0 ∷ 0 ∷ 7 ∷ 0 ∷ 0 ∷ 0x1C ∷ 0x20 ∷ []
 
 -- CALLS: made at week 1, second 2; asked at second 7; answered at second 10; refreshed at second 20; or asked again at second 47 and answered late,
 -- at second 52; from 192.0.2.1, mapped, port 5353; host number 7
@@ -91,12 +90,8 @@ setup_call = datagram_at 1 7 sender 7 setup_query 60
 abbrev pub response_call : ServeCall
 response_call = datagram_at 1 10 sender 9 (response_of 0x0E 0x10) 60
 
--- asking 7,200 seconds, and 0
 abbrev pub refresh_call : ServeCall
-refresh_call = datagram_at 1 20 sender 9 (refresh_of 0x1C 0x20) 60
-
-abbrev pub end_call : ServeCall
-end_call = datagram_at 1 20 sender 9 (refresh_of 0 0) 60
+refresh_call = datagram_at 1 20 sender 9 refresh_query 60
 
 abbrev pub again_call : ServeCall
 again_call = datagram_at 1 47 sender 9 setup_query 60
@@ -178,53 +173,11 @@ listed_pin =
     clock_pin 0x82 0 ++ first_pin ++ second_pin ++ unused_pin ++ unused_pin ++ unused_pin ++ unused_pin ++ unused_pin ++ unused_pin ++ unused_pin ++ unused_pin ++ unused_pin ++ unused_pin
     ++ unused_pin ++ unused_pin ++ unused_pin ++ unused_pin ++ free_pin
 
--- WITH HELD: a table of one slot, 649 bytes, made with one line, of the sender's address, share 1, limit 2
-abbrev pub own_given : List ℕ
-own_given = 3 ∷ 0 ∷ 0 ∷ 0 ∷ 0 ∷ 0 ∷ 0 ∷ 0 ∷ 0 ∷ 0 ∷ 0 ∷ 0xFF ∷ 0xFF ∷ 0xC0 ∷ 0 ∷ 0x02 ∷ 0x01 ∷ 1 ∷ 2 ∷ []
-
--- lines: kind 11, address 16, share, limit, held; unused: kind 13
-abbrev pub own_held_pin : ℕ → List ℕ
-own_held_pin n = 0x0B ∷ 0 ∷ 0 ∷ 0 ∷ 0 ∷ 0 ∷ 0 ∷ 0 ∷ 0 ∷ 0 ∷ 0 ∷ 0xFF ∷ 0xFF ∷ 0xC0 ∷ 0 ∷ 0x02 ∷ 0x01 ∷ 1 ∷ 2 ∷ n ∷ []
-
-abbrev pub unused_held_pin : List ℕ
-unused_held_pin = 0x0D ∷ zeros 19
-
--- 14 of them
-abbrev pub rest_held_pin : List ℕ
-rest_held_pin =
-    unused_held_pin ++ unused_held_pin ++ unused_held_pin ++ unused_held_pin ++ unused_held_pin ++ unused_held_pin ++ unused_held_pin ++ unused_held_pin ++ unused_held_pin ++ unused_held_pin
-    ++ unused_held_pin ++ unused_held_pin ++ unused_held_pin ++ unused_held_pin
-
--- the clock by its place's last byte and its count, held, and the slot
-abbrev pub held_pin : ℕ → ℕ → ℕ → List ℕ → List ℕ
-held_pin low running n slot = clock_pin low running ++ own_held_pin n ++ unused_held_pin ++ rest_held_pin ++ slot
-
--- made; asked; answered; ended
-abbrev pub held_made_pin : List ℕ
-held_made_pin = held_pin 0x82 0 0 free_pin
-
-abbrev pub held_pending_pin : List ℕ
-held_pending_pin = held_pin 0x87 5 1 (entry_pin 5 0x0E 0x10 5)
-
-abbrev pub held_established_pin : List ℕ
-held_established_pin = held_pin 0x8A 8 1 (entry_pin 6 0x0E 0x10 5)
-
-abbrev pub held_ended_pin : List ℕ
-held_ended_pin = held_pin 0x94 18 0 free_pin
-
--- `listed_pin` moved: two lines with nothing held
-abbrev pub listed_held_pin : List ℕ
-listed_held_pin =
-    clock_pin 0x82 0
-    ++ (0x0B ∷ 0x20 ∷ 0x01 ∷ 0x0D ∷ 0xB8 ∷ 0 ∷ 0 ∷ 0 ∷ 0 ∷ 0 ∷ 0 ∷ 0 ∷ 0 ∷ 0 ∷ 0 ∷ 0 ∷ 0x05 ∷ 0 ∷ 3 ∷ 0 ∷ [])
-    ++ (0x0B ∷ 0 ∷ 0 ∷ 0 ∷ 0 ∷ 0 ∷ 0 ∷ 0 ∷ 0 ∷ 0 ∷ 0 ∷ 0xFF ∷ 0xFF ∷ 0xC0 ∷ 0 ∷ 0x02 ∷ 0x09 ∷ 1 ∷ 2 ∷ 0 ∷ [])
-    ++ rest_held_pin ++ free_pin
-
 -- A TABLE OF THREE SLOTS, one free, one pending, one established, with two lines: no byte of its numbers is there twice; by its weeks and its clock
 abbrev pub distinct_with : Weeks → Clock → Table
 distinct_with w c =
     record {
-      layout = record { weeks = w; lines = plain };
+      layout = record { weeks = w };
       clock = c;
       roster =
           record { address = 0x2122232425262728292A2B2C2D2E2F30; share = 0x09; limit = 0x0A }
@@ -327,7 +280,7 @@ pub record Pinned (s : Server) : Type 0 where
   pub acknowledged : s.serve response_call pending_pin (replicate 60 0xAA)
       ≡ record { number = 0; length = 52; table = established_pin; reply = acknowledgment_of 0x0E 0x0D ++ replicate 8 0xAA }  -- 3,597 at age 3
   pub renewed : s.serve refresh_call established_pin (replicate 60 0xAA)
-      ≡ record { number = 0; length = 52; table = renewed_pin; reply = renewal_of 0x1C 0x20 ++ replicate 8 0xAA }
+      ≡ record { number = 0; length = 52; table = renewed_pin; reply = renewal_reply ++ replicate 8 0xAA }
   -- the setup again at age 40: 3,560 remain, and the clock alone moves
   pub repeated : s.serve again_call pending_pin (replicate 60 0xAA)
       ≡ record { number = 0; length = 52; table = again_pin; reply = challenge_of 0x0D 0xE8 ++ replicate 8 0xAA }
@@ -344,18 +297,6 @@ pub record Pinned (s : Server) : Type 0 where
   pub wide_size : length wide_last_pin ≡ 637
   pub wide_made : s.make (make_at 8191 604799 []) (replicate 637 0xEE) ≡ record { number = 0; table = wide_last_pin }
   pub wide_ticked : s.tick (tick_at 0 0) wide_last_pin ≡ record { number = 0; freed = 0; table = wide_next_pin }
-  -- with held: made, asked by the listed address, answered and ended
-  pub held_size : length held_made_pin ≡ 649
-  pub held_made : s.make (make_at 1 2 own_given) (replicate 649 0xEE) ≡ record { number = 0; table = held_made_pin }
-  pub held_challenged : s.serve setup_call held_made_pin (replicate 60 0xAA)
-      ≡ record { number = 0; length = 52; table = held_pending_pin; reply = challenge_reply ++ replicate 8 0xAA }
-  pub held_acknowledged : s.serve response_call held_pending_pin (replicate 60 0xAA)
-      ≡ record { number = 0; length = 52; table = held_established_pin; reply = acknowledgment_of 0x0E 0x0D ++ replicate 8 0xAA }
-  pub held_ended : s.serve end_call held_established_pin (replicate 60 0xAA)
-      ≡ record { number = 0; length = 52; table = held_ended_pin; reply = renewal_of 0 0 ++ replicate 8 0xAA }
-  -- both moves of a listed table
-  pub moved_to : s.to_held listed_pin (replicate 649 0xEE) ≡ record { number = 0; table = listed_held_pin }
-  pub moved_from : s.from_held listed_held_pin (replicate 633 0xEE) ≡ record { number = 0; table = listed_pin }
   -- the definitions write and read the three slots so
   pub written : table_bytes distinct_table ≡ distinct_pin
   pub read_back : read_table distinct_pin ≡ distinct_table

@@ -23,10 +23,9 @@ Done x = x ≡ 0
 abbrev pub Unsound : List ℕ → Type 0
 Unsound b = SoundBytes b → ⊥
 
--- 1, making: LENGTH WRONG: that of no table of 1 to 64 slots, with weeks of ten bits or of thirteen, without held and with it
+-- 1, making: LENGTH WRONG: that of no table of 1 to 64 slots, with weeks of ten bits or of thirteen
 abbrev pub WrongLength : ℕ → Type 0
-WrongLength size =
-    (n : ℕ) → 1 ≤ n → n ≤ 64 → (size ≢ 313 + 320 * n) × (size ≢ 317 + 320 * n) × (size ≢ 329 + 320 * n) × (size ≢ 333 + 320 * n)
+WrongLength size = (n : ℕ) → 1 ≤ n → n ≤ 64 → (size ≢ 313 + 320 * n) × (size ≢ 317 + 320 * n)
 
 -- 2: WEEK OR SECOND TOO LARGE, by the last week that the table's length allows
 pub data ReadingFault (last week second : ℕ) : Type 0 where

@@ -6,7 +6,7 @@ use Rattle.model.specs.Lists.{bit, count, up_to}
 use Rattle.model.specs.Clock.{Clock, ten_bit, cycle_of, step, age_at, run_out}
 use Rattle.model.specs.Numbers.{part}
 use Rattle.model.specs.Query.{Question, LlqOption, name_at, question_start, question}
-use Rattle.model.specs.Table.{Entry, plain, free, held, Table}
+use Rattle.model.specs.Table.{Entry, free, held, Table}
 use Rattle.model.specs.Rules.{Holding, entries_of, asks, granted_lease, fresh_number}
 use Rattle.model.specs.Serve.{Sender, Served, is_free, answers, serve_option}
 use Rattle.claims.specs.Tally.{ahead, forward, behind, move_tally, is_of, is_answered}
@@ -25,7 +25,7 @@ w9 = fresh_number 3 (count (entries_of 0 (held (entry_numbered 18446744073709551
 abbrev pub w10_table : Table
 w10_table =
     record {
-      layout = record { weeks = ten_bit; lines = plain };
+      layout = record { weeks = ten_bit };
       clock = record { place = 0; running = 0 };
       roster = record { address = 7; share = 3; limit = 3 } ∷ [];
       slots = free ∷ free ∷ free ∷ free ∷ [];

@@ -1,36 +1,20 @@
 -- Sound and unsound tables at the ends of each rule, computed beside expected. Assumes nothing.
 use Rattle.std.specs.Prelude.{ℕ, ◌+◌, ◌≡◌, Bool, true, false, List, [], ◌∷◌, ◌++◌, map, replicate, set}
 use Rattle.model.specs.Clock.{Weeks, ten_bit, thirteen_bit}
-use Rattle.model.specs.Table.{Line, LineForm, plain, counted, Slot, free, held, Table, table_bytes}
+use Rattle.model.specs.Table.{Line, Slot, free, held, Table, table_bytes}
 use Rattle.model.specs.Sound.{sound_table, sound_bytes}
 
--- an entry of an address; of address 9 where none is named
-abbrev pub entry_of : ℕ → Bool → ℕ → ℕ → ℕ → ℕ → List ℕ → Slot
-entry_of address established port number lease stamp name =
-    held (record {
-      established = established;
-      address = address;
-      port = port;
-      number = number;
-      lease = lease;
-      stamp = stamp;
-      qtype = 12;
-      qclass = 1;
-      name = name;
-    })
-
+-- an entry of address 9
 abbrev pub entry : Bool → ℕ → ℕ → ℕ → ℕ → List ℕ → Slot
-entry = entry_of 9
+entry established port number lease stamp name =
+    held (record { established = established; address = 9; port = port; number = number; lease = lease; stamp = stamp; qtype = 12; qclass = 1; name = name })
 
 abbrev pub line : ℕ → ℕ → ℕ → Line
 line address share limit = record { address = address; share = share; limit = limit }
 
--- at a running count of 100; with lines without held where the weeks alone are named, and weeks of ten bits where none are
-abbrev pub table_in : Weeks → LineForm → ℕ → List Line → List Slot → Table
-table_in w f place ls ss = record { layout = record { weeks = w; lines = f }; clock = record { place = place; running = 100 }; roster = ls; slots = ss }
-
+-- at a running count of 100; with weeks of ten bits where none are named
 abbrev pub table_with : Weeks → ℕ → List Line → List Slot → Table
-table_with w = table_in w plain
+table_with w place ls ss = record { layout = record { weeks = w }; clock = record { place = place; running = 100 }; roster = ls; slots = ss }
 
 abbrev pub table : ℕ → List Line → List Slot → Table
 table = table_with ten_bit
@@ -114,23 +98,6 @@ damaged = damaged_with ten_bit
 abbrev pub longer : Weeks → List ℕ → Bool
 longer w xs = sound_bytes (table_bytes (table_with w 5 [] (free ∷ [])) ++ xs)
 
--- the bytes of a table of two listed addresses, 9 with two entries and 8 with one, by its weeks and the form of its lines
-abbrev pub two_listed : Weeks → LineForm → List ℕ
-two_listed w f =
-    table_bytes
-    (table_in w f 5 (line 9 0 3 ∷ line 8 1 2 ∷ []) (entry false 1 7 60 100 name ∷ entry_of 8 false 1 8 60 100 name ∷ entry true 2 9 60 100 name ∷ []))
-
--- with byte i changed to x
-abbrev pub listed_with : LineForm → ℕ → ℕ → Bool
-listed_with f i x = sound_bytes (set (two_listed ten_bit f) i x)
-
--- with these helds of 9 and 8, which stand at 28 and 48, or with weeks of thirteen bits four further on
-abbrev pub helds : ℕ → ℕ → Bool
-helds x y = sound_bytes (set (set (two_listed ten_bit counted) 28 x) 48 y)
-
-abbrev pub wide_helds : ℕ → ℕ → Bool
-wide_helds x y = sound_bytes (set (set (two_listed thirteen_bit counted) 32 x) 52 y)
-
 -- computed beside expected
 abbrev pub table_samples : List (Bool × Bool)
 table_samples =
@@ -183,26 +150,6 @@ table_samples =
     ∷ (damaged_with thirteen_bit 313 6, false)
     ∷ (damaged_with thirteen_bit 4 1, true)  -- a place of 2^32 + 5, and of 2^33 + 5
     ∷ (damaged_with thirteen_bit 4 2, false)
-    ∷ (helds 2 1, true)  -- held is what each listed address holds, as it is, then: one more, one less, 255,
-    ∷ (helds 3 1, false)
-    ∷ (helds 1 1, false)
-    ∷ (helds 2 2, false)
-    ∷ (helds 2 0, false)
-    ∷ (helds 255 1, false)
-    ∷ (helds 2 255, false)
-    ∷ (helds 1 2, false)  -- the two exchanged,
-    ∷ (wide_helds 2 1, true)
-    ∷ (wide_helds 1 2, false)
-    ∷ (listed_with counted 68 0, true)  -- and 0 in an unused line
-    ∷ (listed_with counted 68 1, false)
-    ∷ (listed_with counted 9 11, true)  -- a line's kind is by the length: 11 and 13 at 329 + 320n, and not 3 and 2,
-    ∷ (listed_with counted 9 3, false)
-    ∷ (listed_with counted 49 13, true)
-    ∷ (listed_with counted 49 2, false)
-    ∷ (listed_with plain 9 3, true)  -- 3 and 2 at 313 + 320n, and not 11 and 13
-    ∷ (listed_with plain 9 11, false)
-    ∷ (listed_with plain 47 2, true)
-    ∷ (listed_with plain 47 13, false)
     ∷ []
 
 abbrev pub AgreeAll : List (Bool × Bool) → Type 0

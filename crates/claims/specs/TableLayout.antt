@@ -1,50 +1,39 @@
 -- The table's layout, place by place, apart from the model's encoder and reader. Assumes nothing.
-use Rattle.std.specs.Prelude.{ℕ, ◌+◌, ◌-◌, ◌*◌, ◌%◌, ◌≤◌, ◌<◌, ◌≡◌, cond, List, length, get_or}
+use Rattle.std.specs.Prelude.{ℕ, ◌+◌, ◌*◌, ◌≤◌, ◌<◌, ◌≡◌, cond, List, length, get_or}
 use Rattle.model.specs.Clock.{Clock, Weeks, ten_bit, thirteen_bit}
-use Rattle.model.specs.Table.{Line, LineForm, plain, counted, Entry, Slot, free, held, Table, table_bytes, read_table}
+use Rattle.model.specs.Table.{Line, Entry, Slot, free, held, Table, table_bytes, read_table}
 use Rattle.model.specs.Sound.{Fits, SoundBytes}
 use Rattle.claims.specs.Exactly.{Exactly}
 use Rattle.claims.specs.NumbersInBytes.{value_at}
-use Rattle.claims.specs.SoundRules.{held_slots, line_in, SoundRules}
+use Rattle.claims.specs.SoundRules.{line_in, SoundRules}
 
 -- RECORDS in a table's bytes b: a byte of kind at a place, and a body behind it
 
--- what differs by the weeks that the clock counts and by the form of the lines: the clock record's kind and the width of its place; where the running
--- count and the roster lines start; a line's bytes, its kind where it is listed and where it is unused; where the slots start
+-- what differs by the weeks that the clock counts: the clock record's kind and the width of its place, and where the running count, the roster lines
+-- and the slots start
 pub record Places : Type 0 where
   pub kind : ℕ
   pub width : ℕ
   pub running : ℕ
   pub lines : ℕ
-  pub line : ℕ
-  pub listed : ℕ
-  pub unused : ℕ
   pub slots : ℕ
 
--- kind 1, body 8: last place 4, running count 4; or kind 9, body 12: last place 8, running count 4. Lines of 19 bytes, of kinds 3 and 2; or of 20,
--- of kinds 11 and 13
-abbrev pub offsets_of : Weeks → LineForm → Places
-offsets_of ten_bit plain = record { kind = 1; width = 4; running = 5; lines = 9; line = 19; listed = 3; unused = 2; slots = 313 }
-offsets_of ten_bit counted = record { kind = 1; width = 4; running = 5; lines = 9; line = 20; listed = 11; unused = 13; slots = 329 }
-offsets_of thirteen_bit plain = record { kind = 9; width = 8; running = 9; lines = 13; line = 19; listed = 3; unused = 2; slots = 317 }
-offsets_of thirteen_bit counted = record { kind = 9; width = 8; running = 9; lines = 13; line = 20; listed = 11; unused = 13; slots = 333 }
+-- kind 1, body 8: last place 4, running count 4; or kind 9, body 12: last place 8, running count 4
+abbrev pub offsets_of : Weeks → Places
+offsets_of ten_bit = record { kind = 1; width = 4; running = 5; lines = 9; slots = 313 }
+offsets_of thirteen_bit = record { kind = 9; width = 8; running = 9; lines = 13; slots = 317 }
 
 pub record ClockRecord (p : Places) (b : List ℕ) (c : Clock) : Type 0 where
   pub kind : get_or b 0 0 ≡ p.kind
   pub place : value_at b 1 p.width ≡ c.place
   pub running : value_at b p.running 4 ≡ c.running
 
--- kind 3, body 18: listed address 16, share 1, limit 1; or kind 11, body 19: the same and held 1
-pub record LineRecord (first : ℕ) (b : List ℕ) (at : ℕ) (l : Line) : Type 0 where
-  pub kind : get_or b at 0 ≡ first
+-- kind 3, body 18: listed address 16, share 1, limit 1
+pub record LineRecord (b : List ℕ) (at : ℕ) (l : Line) : Type 0 where
+  pub kind : get_or b at 0 ≡ 3
   pub address : value_at b (at + 1) 16 ≡ l.address
   pub share : get_or b (at + 17) 0 ≡ l.share
   pub limit : get_or b (at + 18) 0 ≡ l.limit
-
--- held: how many slots have an entry of the line's address, as a byte (of a sound table, of at most 64 slots, that number itself)
-abbrev pub HeldByte : LineForm → List ℕ → ℕ → List Slot → Line → Type 0
-HeldByte plain b at s l = Unit {0}
-HeldByte counted b at s l = get_or b (at + 19) 0 ≡ held_slots s l.address % 256
 
 -- a body of zeros
 pub record ZeroRecord (b : List ℕ) (at first body : ℕ) : Type 0 where
@@ -71,20 +60,18 @@ abbrev pub SlotRecord : List ℕ → ℕ → Slot → Type 0
 SlotRecord b at free = ZeroRecord b at 4 319
 SlotRecord b at (held e) = EntryRecord b at e
 
--- A TABLE of n slots: one clock record, 16 roster lines, the listed ones first and then unused ones (kind 2, body 18, or kind 13, body 19, all zero), the
--- slots
+-- A TABLE of n slots: one clock record, 16 roster lines, the listed ones first and then unused ones (kind 2, body 18, all zero), the slots
 pub record RecordsAt (p : Places) (b : List ℕ) (t : Table) : Type 0 where
   pub size : length b ≡ p.slots + 320 * length t.slots
   pub octets : (i : ℕ) → i < length b → get_or b i 0 < 256
   pub clock : ClockRecord p b t.clock
-  pub listed : (i : ℕ) → i < length t.roster → LineRecord p.listed b (p.lines + p.line * i) (line_in t.roster i)
-  pub held : (i : ℕ) → i < length t.roster → HeldByte t.layout.lines b (p.lines + p.line * i) t.slots (line_in t.roster i)
-  pub unused : (i : ℕ) → length t.roster ≤ i → i < 16 → ZeroRecord b (p.lines + p.line * i) p.unused (p.line - 1)
+  pub listed : (i : ℕ) → i < length t.roster → LineRecord b (p.lines + 19 * i) (line_in t.roster i)
+  pub unused : (i : ℕ) → length t.roster ≤ i → i < 16 → ZeroRecord b (p.lines + 19 * i) 2 18
   pub slots : (j : ℕ) → j < length t.slots → SlotRecord b (p.slots + 320 * j) (get_or t.slots j free)
 
--- at the places of its layout
+-- at the places of its weeks
 abbrev pub TableRecords : List ℕ → Table → Type 0
-TableRecords b t = RecordsAt (offsets_of t.layout.weeks t.layout.lines) b t
+TableRecords b t = RecordsAt (offsets_of t.layout.weeks) b t
 
 -- THE BYTES OF A SOUND TABLE, told by their places
 pub record SoundRecords (b : List ℕ) : Type 0 where

@@ -4,7 +4,7 @@ use borrow.Author.Tests.{lt-leb}
 use mathlib.Core.Bool.{and-false}
 use Rattle.model.specs.Lists.{count, any, index_of}
 use Rattle.model.specs.Clock.{age_at}
-use Rattle.model.specs.Table.{LineForm, line_size, Slot, free, held, read_entry, read_slot, listed}
+use Rattle.model.specs.Table.{Slot, free, held, read_entry, read_slot, listed}
 use Rattle.model.specs.Rules.{Holding, holding, held_by, numbered, Counts, share_of, limit_of, reserve, full, fresh_number}
 use Rattle.model.specs.Serve.{in_span, right_lease, has}
 use Rattle.model.proofs.ListLaws.{count_at, every-nil, every-next, every-not, index-up_to, index-up_to-none, length-up_to, get_or-up_to, up_to-none}
@@ -139,31 +139,28 @@ used-none b n p e = rw (count_held b n p, every-not (has 0 p) (slots_to b n) e)
 
 -- SERV-FULL, from what the code has counted
 
-module _ (f : LineForm) (lines slots : List ℕ) (n a : ℕ) {w m h l : ℕ} (ws : w ≡ line_size f) (ms : m ≡ listed f lines 16) (hs : h ≡ count (held_to 0 slots n) (held_by a))
-    (ls : l ≡ limit_of (lines_to w lines m) a) where
+module _ (lines slots : List ℕ) (n a : ℕ) {m h l : ℕ} (ms : m ≡ listed lines 16) (hs : h ≡ count (held_to 0 slots n) (held_by a)) (ls : l ≡ limit_of (lines_to lines m) a) where
   room : Bool
-  room = leb (share_of (lines_to w lines m) a) h && leb (n - count (held_to 0 slots n) any) (reserve (lines_to w lines m) (count (held_to 0 slots n)))
+  room = leb (share_of (lines_to lines m) a) h && leb (n - count (held_to 0 slots n) any) (reserve (lines_to lines m) (count (held_to 0 slots n)))
 
   abbrev full_now : Bool
-  full_now = full n (lines_to (line_size f) lines (listed f lines 16)) (count (held_to 0 slots n)) a
+  full_now = full n (lines_to lines (listed lines 16)) (count (held_to 0 slots n)) a
 
   full_is : full_now ≡ leb l h || room
   unfolding full room
-  full_is = rw (← ws, ← ms, ← hs, ← ls)
+  full_is = rw (← ms, ← hs, ← ls)
 
   pub full-limit : l ≤ h → full_now ≡ true
   full-limit t = full_is ∙ rw (le-leb l h t)
 
-  module _ (t : h < l) {s : ℕ} (ss : s ≡ share_of (lines_to w lines m) a) where
+  module _ (t : h < l) {s : ℕ} (ss : s ≡ share_of (lines_to lines m) a) where
     pub full-share : h < s → full_now ≡ false
     unfolding room
     full-share u = full_is ∙ rw (lt-leb l h t, ← ss, lt-leb s h u)
 
-    pub full-room : s ≤ h → {e k : ℕ} → e ≡ count (held_to 0 slots n) any → k ≡ reserve (lines_to (line_size f) lines m) (count (held_to 0 slots n)) → full_now ≡ leb (n - e) k
+    pub full-room : s ≤ h → {e k : ℕ} → e ≡ count (held_to 0 slots n) any → k ≡ reserve (lines_to lines m) (count (held_to 0 slots n)) → full_now ≡ leb (n - e) k
     unfolding room
-    full-room u {k = k} es ks =
-        let r : k ≡ reserve (lines_to w lines m) (count (held_to 0 slots n)) = ks ∙ ap (λ (x : ℕ). reserve (lines_to x lines m) (count (held_to 0 slots n))) (sym ws) in
-        full_is ∙ rw (lt-leb l h t, ← ss, le-leb s h u, ← es, ← r)
+    full-room u es ks = full_is ∙ rw (lt-leb l h t, ← ss, le-leb s h u, ← es, ← ks)
 
 -- THE NUMBER SEARCH
 

@@ -1,17 +1,15 @@
 // What is read of a table's slots, where they lie: `slots` is the part that starts with the first. A slot is found by its first index, as the model finds it.
-ghost use Rattle.std.specs.Prelude.{◌≡◌, ◌+◌, ◌*◌, ◌≤◌, true, ◌||◌, length, ◌==◌, nat_le};
+ghost use Rattle.std.specs.Prelude.{◌≡◌, ◌+◌, ◌*◌, ◌≤◌, ◌||◌, length, ◌==◌, nat_le};
 ghost use Rattle.model.specs.Lists.{count, index_of};
 ghost use Rattle.model.specs.Clock.{age_at, run_out};
-ghost use Rattle.model.specs.Table.{line_size, held_of, read_entry, read_slot, listed};
+ghost use Rattle.model.specs.Table.{read_entry, read_slot, listed};
 ghost use Rattle.model.specs.Rules.{numbered, asks, full, fresh_number};
 ghost use Rattle.model.specs.Serve.{is_free, has, slot_run_out, in_span, answers, refreshes};
 ghost use Rattle.wire.specs.Records.{question_of};
 ghost use Rattle.entries.specs.Reads.{address_of, sender_of, entry_at, found_at, same_fields, slot_has, sent};
-ghost use Rattle.layout.specs.Shape.{slots_to, lines_to, held_right};
-ghost use Rattle.layout.specs.Forms.{form_of};
+ghost use Rattle.layout.specs.Shape.{slots_to, lines_to};
 ghost use Rattle.layout.specs.Held.{holding_at, held_to};
 
-use layout::LineForm;
 use record::State;
 use wire::{LlqNumber, Question};
 
@@ -289,21 +287,20 @@ pub fn run_out(slots: &[u8], i: usize, running: u32) -> bool
     }
 }
 
-// SERV-FULL: the address is at its limit, or has reached its share and the free slots are no more than the reserve. Counted lines, whose held is right, say what a listed address holds and what is reserved.
-pub fn is_full(lines: &[u8], slots: &[u8], n: usize, form: LineForm, high: u64, low: u64) -> bool
-    requires { (line_size (form_of form) * 16 ≤ length lines.now) × (320 * n ≤ length slots.now) × (n ≤ 64) × (held_right (form_of form) lines.now (held_of (slots_to slots.now n)) (listed (form_of form) lines.now 16) ≡ true) }
-    ensures { result ≡ full n (lines_to (line_size (form_of form)) lines.now (listed (form_of form) lines.now 16)) (count (held_to 0 slots.now n)) (address_of high low) }
+// SERV-FULL: the address is at its limit, or has reached its share and the free slots are no more than the reserve.
+pub fn is_full(lines: &[u8], slots: &[u8], n: usize, high: u64, low: u64) -> bool
+    requires { (304 ≤ length lines.now) × (320 * n ≤ length slots.now) }
+    ensures { result ≡ full n (lines_to lines.now (listed lines.now 16)) (count (held_to 0 slots.now n)) (address_of high low) }
 {
-    let w = layout::line_size(form);
-    let m = roster::listed_apart(lines, form);
-    let h = holdings::held_of(lines, slots, n, form, m, high, low);
-    if roster::limit_of(lines, w, m, high, low) <= h {
+    let m = roster::listed_lines(lines);
+    let h = holdings::held_by(slots, n, high, low);
+    if roster::limit_of(lines, m, high, low) <= h {
         return true;
     }
-    if h < roster::share_of(lines, w, m, high, low) {
+    if h < roster::share_of(lines, m, high, low) {
         return false;
     }
-    n - holdings::held(slots, n) <= holdings::reserve_of(lines, slots, n, form, m)
+    n - holdings::held(slots, n) <= holdings::reserve_of(lines, slots, n, m)
 }
 
 // An entry has the number.

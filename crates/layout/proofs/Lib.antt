@@ -1,10 +1,8 @@
-pub mod WidthLaws
 pub mod ShapeLaws
 pub mod PartLaws
 pub mod LayoutLaws
 pub mod ReadLaws
 pub mod HeldLaws
-pub mod CountedLaws
 pub mod AgeLaws
 pub mod LineLaws
 pub mod LimitLaws

@@ -8,7 +8,7 @@ use lib.ListN.{length, get_or, take, drop, length-drop}
 use lib.Seq.{get_or-drop, drop-drop, take-add, take-length, drop-length}
 use Rattle.model.specs.Numbers.{big_endian, part, splice}
 use Rattle.model.specs.Lists.{up_to, index_of}
-use Rattle.model.specs.Table.{Slot, read_table, read_slot, read_entry, read_line, Layout, line_size, running_at, lines_at, base, line_at, slot_at, listed, layout_of, slots_in, size_of}
+use Rattle.model.specs.Table.{Slot, read_table, read_slot, read_entry, read_line, Layout, running_at, lines_at, base, line_at, slot_at, listed, layout_of, slots_in, size_of}
 use Rattle.model.specs.Rules.{Holding, holdings}
 use Rattle.model.specs.Serve.{has, find_entry}
 use Rattle.model.proofs.NumberLaws.{big-ext}
@@ -77,13 +77,10 @@ module _ (b : List ℕ) where
   abbrev l : Layout
   l = layout_of (length b)
 
-  abbrev w : ℕ
-  w = line_size l.lines
-
-  pub roster-read : (read_table b).roster ≡ lines_to w (drop (lines_at l) b) (listed l.lines (drop (lines_at l) b) 16)
+  pub roster-read : (read_table b).roster ≡ lines_to (drop (lines_at l) b) (listed (drop (lines_at l) b) 16)
   unfolding read_table
   roster-read =
-      up_to-ext (listed l.lines (drop (lines_at l) b) 16) (λ j. read_line b (line_at l j)) (λ j. read_line (drop (lines_at l) b) (w * j)) (λ j h. sym (line-drop (lines_at l) b (w * j)))
+      up_to-ext (listed (drop (lines_at l) b) 16) (λ j. read_line b (line_at l j)) (λ j. read_line (drop (lines_at l) b) (19 * j)) (λ j h. sym (line-drop (lines_at l) b (19 * j)))
 
   running-is : (read_table b).clock.running ≡ big_endian b (running_at l) 4
   unfolding read_table

@@ -7,12 +7,12 @@ use mathlib.Core.List.{List}
 use lib.ListN.{length, get_or, drop, length-drop}
 use lib.Dec.{eqb}
 use Rattle.model.specs.Numbers.{big_endian, Bytes, part}
-use Rattle.model.specs.Table.{Slot, free, held, held_of, slot_bytes, table_bytes, read_table, read_slot, read_entry, clock_kind, place_bytes, running_at, lines_at, base, size_of, layout_of, slots_in, listed}
-use Rattle.model.proofs.ListLaws.{and_left, and_right, same_refl, same_true, get_or-up_to}
+use Rattle.model.specs.Table.{Slot, free, held, slot_bytes, table_bytes, read_table, read_slot, read_entry, clock_kind, place_bytes, running_at, lines_at, base, size_of, layout_of, slots_in, listed}
+use Rattle.model.proofs.ListLaws.{and_right, same_refl, same_true, get_or-up_to}
 use Rattle.model.proofs.NumberLaws.{bytes_drop}
 use Rattle.model.proofs.TableLaws.{length-table}
 use Rattle.model.proofs.Meaning.{fits_read, lines-read, slots_read, layout-read}
-use Rattle.layout.specs.Shape.{in_use, all, slot_shape, unused_from, held_right, parts_shape, table_shape, slots_to}
+use Rattle.layout.specs.Shape.{in_use, all, slot_shape, unused_from, parts_shape, table_shape}
 use Rattle.layout.proofs.PartLaws.{parts-read}
 use Rattle.layout.proofs.ShapeLaws.{all-at, slot-shape-is}
 use Rattle.layout.proofs.LayoutLaws.{layout_is}
@@ -56,25 +56,9 @@ module _ (b : List ℕ) (bytes : Bytes b) where
         let k = layout_of (length b) in
         let s = drop (base k) b in
         let h = eqb (get_or b 0 0) (clock_kind k) in
-        let lines = drop (lines_at k) b in
-        let u = unused_from k.lines lines (listed k.lines lines 16) in
+        let u = unused_from (drop (lines_at k) b) (listed (drop (lines_at k) b) 16) in
         let a = all (λ j. slot_shape s (320 * j)) n in
-        let r = held_right k.lines lines (held_of (slots_to s n)) (listed k.lines lines 16) in
-        let t : a ≡ true = and_right u a (and_left (u && a) r (and_right h ((u && a) && r) formed-shape)) in
+        let t : a ≡ true = and_right u a (and_right h (u && a) formed-shape) in
         let z : length s ≡ length b - base k = length-drop (base k) b in
         same_true (slot_bytes (read_slot s (320 * i))) (part (320 * i) 320 s)
         (slot-shape-is s (bytes_drop (base k) b bytes) (320 * i) (omega (arith, formed-size)) ∙ all-at (λ j. slot_shape s (320 * j)) n i t l)
-
-    -- what its lines say of held is right
-    pub formed-held : held_right (layout_of (length b)).lines (drop (lines_at (layout_of (length b))) b) (held_of (slots_to (drop (base (layout_of (length b))) b) (slots_in (length b)))) (listed (layout_of (length b)).lines (drop (lines_at (layout_of (length b))) b) 16) ≡ true
-    unfolding table_shape parts_shape
-    formed-held =
-        let n = slots_in (length b) in
-        let k = layout_of (length b) in
-        let s = drop (base k) b in
-        let lines = drop (lines_at k) b in
-        let h = eqb (get_or b 0 0) (clock_kind k) in
-        let u = unused_from k.lines lines (listed k.lines lines 16) in
-        let a = all (λ j. slot_shape s (320 * j)) n in
-        let r = held_right k.lines lines (held_of (slots_to s n)) (listed k.lines lines 16) in
-        and_right (u && a) r (and_right h ((u && a) && r) formed-shape)

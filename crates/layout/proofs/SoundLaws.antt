@@ -8,7 +8,7 @@ use lib.Dec.{eqb, ltb}
 use borrow.Author.Tests.{le-leb}
 use Rattle.model.specs.Numbers.{big_endian, Bytes}
 use Rattle.model.specs.Clock.{cycle_of}
-use Rattle.model.specs.Table.{read_table, read_slot, read_line, Layout, line_size, clock_kind, place_bytes, running_at, lines_at, base, size_of, layout_of, slots_in, listed}
+use Rattle.model.specs.Table.{read_table, read_slot, read_line, Layout, clock_kind, place_bytes, running_at, lines_at, base, size_of, layout_of, slots_in, listed}
 use Rattle.model.specs.Sound.{Sound, sound_table, sound_bytes}
 use Rattle.model.proofs.ListLaws.{length-up_to, swap}
 use Rattle.model.proofs.Meaning.{bytes_back, table-sound, slots_read as slots_length, layout-read}
@@ -30,19 +30,19 @@ module _ (b : List ℕ) (bytes : Bytes b) where
     abbrev slots : List ℕ
     slots = drop (base l) b
 
-    table_is : sound_table (read_table b) ≡ ltb (big_endian b 1 (place_bytes l)) (cycle_of l.weeks) && rules_of l.lines (big_endian b (running_at l) 4) lines slots n
+    table_is : sound_table (read_table b) ≡ ltb (big_endian b 1 (place_bytes l)) (cycle_of l.weeks) && rules_of (big_endian b (running_at l) 4) lines slots n
     unfolding sound_table held_to
     table_is =
-        let m = listed l.lines lines 16 in
+        let m = listed lines 16 in
         let ls : length (slots_to slots n) ≡ n = length-up_to n (λ j. read_slot slots (320 * j)) in
-        let lr : length (lines_to (line_size l.lines) lines m) ≡ m = length-up_to m (λ j. read_line lines (line_size l.lines * j)) in
-        rw (layout-read b, slots_read b n size, roster-read b, ls, lr, le-leb 1 n lo, le-leb n 64 hi, le-leb m 16 (listed_le l.lines lines 16), place_read b, running-read b)
+        let lr : length (lines_to lines m) ≡ m = length-up_to m (λ j. read_line lines (19 * j)) in
+        rw (layout-read b, slots_read b n size, roster-read b, ls, lr, le-leb 1 n lo, le-leb n 64 hi, le-leb m 16 (listed_le lines 16), place_read b, running-read b)
         (simp (and-true, and_assoc))
 
     -- the kind and the place of the clock's record; the rest by lines and slots
-    pub sound-is : sound_bytes b ≡ eqb (get_or b 0 0) (clock_kind l) && (ltb (big_endian b 1 (place_bytes l)) (cycle_of l.weeks) && (parts_shape l.lines lines slots n && rules_of l.lines (big_endian b (running_at l) 4) lines slots n))
+    pub sound-is : sound_bytes b ≡ eqb (get_or b 0 0) (clock_kind l) && (ltb (big_endian b 1 (place_bytes l)) (cycle_of l.weeks) && (parts_shape lines slots n && rules_of (big_endian b (running_at l) 4) lines slots n))
     unfolding sound_bytes table_shape
-    sound-is = rw (layout_is b bytes n size, table_is) (swap (eqb (get_or b 0 0) (clock_kind l)) (parts_shape l.lines lines slots n) (ltb (big_endian b 1 (place_bytes l)) (cycle_of l.weeks)) (rules_of l.lines (big_endian b (running_at l) 4) lines slots n) ∙ simp and_assoc)
+    sound-is = rw (layout_is b bytes n size, table_is) (swap (eqb (get_or b 0 0) (clock_kind l)) (parts_shape lines slots n) (ltb (big_endian b 1 (place_bytes l)) (cycle_of l.weeks)) (rules_of (big_endian b (running_at l) 4) lines slots n) ∙ simp and_assoc)
 
   -- a sound table's length
   pub sound-size : sound_bytes b ≡ true → (length b ≡ size_of (layout_of (length b)) (slots_in (length b))) × (1 ≤ slots_in (length b)) × (slots_in (length b) ≤ 64)

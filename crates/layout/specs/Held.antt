@@ -1,7 +1,7 @@
 -- The holdings in the slots below i, as the model has them: what a loop over the slots has passed. Assumes nothing.
 use Rattle.std.specs.Prelude.{ℕ, ◌*◌, Bool, true, cond, ◌&&◌, List, get_or, leb}
 use Rattle.model.specs.Lists.{count}
-use Rattle.model.specs.Table.{Line, LineForm, line_size, read_entry, listed}
+use Rattle.model.specs.Table.{Line, read_entry, listed}
 use Rattle.model.specs.Rules.{Holding, holding, entries_of, held_by, limit_of}
 use Rattle.model.specs.Sound.{sound_roster, sound_holdings}
 use Rattle.layout.specs.Shape.{in_use, slots_to, lines_to}
@@ -25,6 +25,6 @@ abbrev pub within : List Line → List Holding → Holding → Bool
 within ls hs h = leb (count hs (held_by h.address)) (limit_of ls h.address)
 
 -- the rules of a table of n slots, by its running count, lines and slots
-abbrev pub rules_of : LineForm → ℕ → List ℕ → List ℕ → ℕ → Bool
-rules_of f running lines slots n =
-    let ls = lines_to (line_size f) lines (listed f lines 16) in sound_roster n ls && sound_holdings n ls (held_to running slots n)
+abbrev pub rules_of : ℕ → List ℕ → List ℕ → ℕ → Bool
+rules_of running lines slots n =
+    sound_roster n (lines_to lines (listed lines 16)) && sound_holdings n (lines_to lines (listed lines 16)) (held_to running slots n)

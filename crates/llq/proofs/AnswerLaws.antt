@@ -19,7 +19,7 @@ use Rattle.model.specs.Calls.{MakeCall, ServeCall, freed_by, fresh_table}
 use Rattle.model.specs.Meets.{ServeMeets}
 use Rattle.model.proofs.ListLaws.{count-le, count-mono, length-up_to}
 use Rattle.model.proofs.HoldingLaws.{count_entries}
-use Rattle.model.proofs.Meaning.{table-sound, slots_read, layout-read}
+use Rattle.model.proofs.Meaning.{table-sound, layout-read}
 use Rattle.model.proofs.ClockLaws.{placed}
 use Rattle.query.specs.Whole.{query_refusal}
 use Rattle.table.specs.Written.{WellFormed, Written}
@@ -35,10 +35,6 @@ pub sound-place : (b : List ℕ) {l : Layout} → l ≡ layout_of (length b) →
 sound-place b {l} e h =
     let c : cycle_in (read_table b) ≡ cycle_of l.weeks = ap (λ (k : Layout). cycle_of k.weeks) (layout-read b ∙ sym e) in
     rw c at (table-sound b h).place
-
--- it has at most 64 slots
-pub sound-few : (b : List ℕ) {n : ℕ} → n ≡ slots_in (length b) → sound_bytes b ≡ true → n ≤ 64
-sound-few b e h = rw (e, ← slots_read b) (table-sound b h).slots_max
 
 -- the reading's test by the layout that was worked out is that by the length
 pub reading-tested : (size : ℕ) {l : Layout} (week second : ℕ) {r v : Bool} → l ≡ layout_of size → r ≡ valid_reading l.weeks week second → r ≡ v

@@ -4,18 +4,17 @@ use native.Mathlib.Omega.{arith}
 use mathlib.Core.Path.{◌≡◌, refl, sym, ap, ◌∙◌}
 use mathlib.Core.Bool.{Bool, true, false, not, cond, ◌||◌, or-true}
 use mathlib.Core.List.{List, [], ◌∷◌, ◌++◌}
-use mathlib.Core.Logic.{◌≢◌}
 use lib.ListN.{length, drop}
 use lib.Dec.{eqb, ltb}
-use borrow.Author.Tests.{eq-eqb, ne_eqb, lt-ltb, le-ltb}
+use borrow.Author.Tests.{lt-ltb, le-ltb}
 use Rattle.model.specs.Clock.{valid_reading, place_of}
 use Rattle.model.specs.Query.{wrong_size, good_header, good_questions, qdcount, good_opt, questions_end, llq_options}
-use Rattle.model.specs.Table.{LineForm, table_bytes, read_table, size_of, layout_of, slots_in}
+use Rattle.model.specs.Table.{table_bytes, read_table, layout_of, slots_in}
 use Rattle.model.specs.Sound.{sound_bytes}
 use Rattle.model.specs.Serve.{moved_on}
 use Rattle.model.specs.Reply.{reply_bytes, reply_length}
-use Rattle.model.specs.Calls.{MakeCall, TickCall, ServeCall, Made, Ticked, Answered, refusal, table_length, good_roster, make_refusal, made_by, make, fresh_table, tick_refusal, ticked_by, tick, freed_by, serve_refusal, served_by, serve, table_after, outcomes, same_form, layout_with, with_lines, move_refusal, moved_by, move_to}
-use Rattle.model.specs.Meets.{Moves, MakeMeets, TickMeets, ServeMeets}
+use Rattle.model.specs.Calls.{MakeCall, TickCall, ServeCall, Made, Ticked, Answered, refusal, table_length, good_roster, make_refusal, made_by, make, fresh_table, tick_refusal, ticked_by, tick, freed_by, serve_refusal, served_by, serve, table_after, outcomes}
+use Rattle.model.specs.Meets.{MakeMeets, TickMeets, ServeMeets}
 use Rattle.model.proofs.CallLaws.{make-answered, tick-answered, serve-answered}
 use Rattle.query.specs.Whole.{query_refusal}
 
@@ -190,40 +189,3 @@ module _ (c : ServeCall) (b reply : List ℕ) where
         table = m ∙ sym (ap (λ (x : Answered). x.table) whole);
         reply = n ∙ sym (ap (λ (x : Answered). x.reply) whole);
       }
-
--- MOVING, to lines of form f
-
-module _ (f : LineForm) (source t : List ℕ) where
-  -- the length that the target must have
-  abbrev wanted : ℕ
-  wanted = size_of (layout_with f (layout_of (length source))) (slots_in (length source))
-
-  move-ladder : (u v w : Bool) → sound_bytes source ≡ u → same_form f (layout_of (length source)).lines ≡ v → eqb (length t) wanted ≡ w
-      → move_refusal f source (length t) ≡ refusal ((1, not u || v || not w) ∷ [])
-  unfolding move_refusal
-  move-ladder u v w h k l = rw (h, k, l)
-
-  move-refused : move_refusal f source (length t) ≡ 1 → Moves (move_to f) source t t 1
-  unfolding move_to
-  move-refused e = record { number = sym (ap (λ (n : ℕ). (moved_by n f source t).number) e); table = sym (ap (λ (n : ℕ). (moved_by n f source t).table) e) }
-
-  pub move_same : same_form f (layout_of (length source)).lines ≡ true → Moves (move_to f) source t t 1
-  unfolding refusal
-  move_same e = move-refused (move-ladder _ _ _ refl e refl ∙ rw (or-true (not (sound_bytes source))))
-
-  pub move-unsound : sound_bytes source ≡ false → Moves (move_to f) source t t 1
-  unfolding refusal
-  move-unsound e = move-refused (move-ladder _ _ _ e refl refl)
-
-  pub move-length : {k : ℕ} → k ≡ wanted → length t ≢ k → Moves (move_to f) source t t 1
-  unfolding refusal
-  move-length e h =
-      move-refused
-      (move-ladder _ _ _ refl refl (ne_eqb (length t) wanted (λ z. h (z ∙ sym e))) ∙ rw (or-true (not (sound_bytes source) || same_form f (layout_of (length source)).lines)))
-
-  pub move-done : (after : List ℕ) {k : ℕ} → sound_bytes source ≡ true → same_form f (layout_of (length source)).lines ≡ false → k ≡ wanted → length t ≡ k
-      → after ≡ table_bytes (with_lines f (read_table source)) → Moves (move_to f) source t after 0
-  unfolding refusal move_to
-  move-done after e g q h x =
-      let z = move-ladder _ _ _ e g (eq-eqb (length t) wanted (h ∙ q)) in
-      record { number = sym (ap (λ (n : ℕ). (moved_by n f source t).number) z); table = x ∙ sym (ap (λ (n : ℕ). (moved_by n f source t).table) z) }

@@ -1,4 +1,4 @@
-// Document 01's three calls, and document 02's two moves, for a host in C. Every refusal is decided before the first byte is written.
+// Document 01's three calls, for a host in C: making, ticking, serving. Every refusal is decided before the first byte is written.
 ghost use Rattle.std.specs.Prelude.{◌≡◌, true, ◌+◌, ◌-◌, ◌*◌, ◌^◌, ◌<◌, ◌≤◌, length};
 ghost use Rattle.model.specs.Lists.{flat, up_to};
 ghost use Rattle.model.specs.Numbers.{splice};
@@ -6,18 +6,16 @@ ghost use Rattle.model.specs.Query.{message_number, flag_rd};
 ghost use Rattle.model.specs.Table.{read_table};
 ghost use Rattle.model.specs.Serve.{serve_option};
 ghost use Rattle.model.specs.Reply.{option_bytes, mismatch, reply_length};
-ghost use Rattle.model.specs.Calls.{same_form, move_to};
-ghost use Rattle.model.specs.Meets.{Moves, MakeMeets, TickMeets, ServeMeets, ToHeldMeets, FromHeldMeets};
+ghost use Rattle.model.specs.Meets.{MakeMeets, TickMeets, ServeMeets};
 ghost use Rattle.wire.specs.Records.{question_of, option_of};
 ghost use Rattle.query.specs.Whole.{QueryOf};
 ghost use Rattle.entries.specs.Reads.{sender_of};
-ghost use Rattle.layout.specs.Forms.{form_of};
 ghost use Rattle.layout.specs.Places.{LayoutFor};
 ghost use Rattle.table.specs.Written.{WellFormed, Written};
 ghost use Rattle.llq.specs.Answer.{Measures, Matches, QuestionsOf, OptionsOf, table_from, outcome_from, before_options, Answers, refused_by, answered_with};
 
 use entries::Sender;
-use layout::{Layout, LineForm};
+use layout::Layout;
 use query::Query;
 use wire::{HEADER_LEN, LlqNumber, LlqOption, MessageNumber, OPT_LEN, OPTION_LEN, Question};
 
@@ -126,7 +124,7 @@ fn serve_one(
     q: Question,
     o: LlqOption,
 )
-    requires { WellFormed t.old × LayoutFor l (length t.old) × (q.start + q.len ≤ length d.now) × (q.len ≤ 255) × (at + 22 ≤ length reply.old) × (l.n ≤ 64) }
+    requires { WellFormed t.old × LayoutFor l (length t.old) × (q.start + q.len ≤ length d.now) × (q.len ≤ 255) × (at + 22 ≤ length reply.old) }
     ensures { Written t.new (serve_option (sender_of s) r (question_of d.now q) (option_of o) (read_table t.old)).table × (reply.new ≡ splice at 22 (option_bytes (serve_option (sender_of s) r (question_of d.now q) (option_of o) (read_table t.old)).outcome) reply.old) }
 {
     let x = options::serve_option(t, l, s, r, d, q, o);
@@ -150,7 +148,7 @@ fn serve_each(
     questions: [Question; 8],
     options: [LlqOption; 8],
 )
-    requires { WellFormed t.old × LayoutFor l (length t.old) × (n ≤ 8) × QuestionsOf d.now n questions × OptionsOf d.now n options × (end + 11 + 22 * n ≤ length reply.old) × (l.n ≤ 64) }
+    requires { WellFormed t.old × LayoutFor l (length t.old) × (n ≤ 8) × QuestionsOf d.now n questions × OptionsOf d.now n options × (end + 11 + 22 * n ≤ length reply.old) }
     ensures { Written t.new (table_from (sender_of s) r d.now (read_table t.old) n) × (reply.new ≡ splice (end + 11) (22 * n) (flat option_bytes (up_to n (outcome_from (sender_of s) r d.now (read_table t.old)))) reply.old) }
 {
     let at = end + OPT_LEN;
@@ -191,7 +189,7 @@ fn put_before_options(
 
 // As many options as questions: each is served.
 fn answer(t: &mut [u8], l: Layout, reply: &mut [u8], d: &[u8], s: Sender, r: u64, q: Query)
-    requires { WellFormed t.old × LayoutFor l (length t.old) × QueryOf d.now q × (q.matched ≡ true) × (reply_length d.now ≤ length reply.old) × (l.n ≤ 64) }
+    requires { WellFormed t.old × LayoutFor l (length t.old) × QueryOf d.now q × (q.matched ≡ true) × (reply_length d.now ≤ length reply.old) }
     ensures { Answers (sender_of s) r d.now t.old t.new reply.old reply.new }
 {
     let number = q.number;
@@ -263,55 +261,4 @@ pub extern "C" fn llq_serve(
     }
     answer(t, l, reply, datagram, s, random, q);
     answered(len)
-}
-
-// MOVING A TABLE, from lines without held to lines with it, and back
-
-fn same_form(a: LineForm, b: LineForm) -> bool
-    ensures { result ≡ same_form (form_of a) (form_of b) }
-{
-    match a {
-        LineForm::Plain => match b {
-            LineForm::Plain => true,
-            LineForm::Counted => false,
-        },
-        LineForm::Counted => match b {
-            LineForm::Plain => false,
-            LineForm::Counted => true,
-        },
-    }
-}
-
-// The table of the source written to t with lines of a form. The source is a sound table whose lines are of the other form, and t as long as its table is then; 1 otherwise.
-fn move_to(form: LineForm, source: &[u8], t: &mut [u8]) -> u32
-    ensures { Moves (move_to (form_of form)) source.now t.old t.new result }
-{
-    let from = layout::of(source.len());
-    let old = from.lines;
-    if same_form(form, old) {
-        return 1;
-    }
-    if !sound::sound(source, from) {
-        return 1;
-    }
-    let to = layout::with_lines(from, form);
-    if t.len() != layout::size_of(to) {
-        return 1;
-    }
-    table::copy_with(t, to, source, from);
-    0
-}
-
-#[unsafe(no_mangle)]
-pub extern "C" fn llq_to_held(source: &[u8], t: &mut [u8]) -> u32
-    ensures { ToHeldMeets source.now t.old t.new result }
-{
-    move_to(LineForm::Counted, source, t)
-}
-
-#[unsafe(no_mangle)]
-pub extern "C" fn llq_from_held(source: &[u8], t: &mut [u8]) -> u32
-    ensures { FromHeldMeets source.now t.old t.new result }
-{
-    move_to(LineForm::Plain, source, t)
 }

@@ -12,7 +12,7 @@ use lib.Dec.{eqb, leb, ltb}
 use borrow.Author.Tests.{eqb-true, leb-true, leb-false, lt-ltb, le-ltb, ltb-true, ltb-false}
 use Rattle.model.specs.Lists.{bit, count, any, keep, index_of}
 use Rattle.model.specs.Clock.{age_at}
-use Rattle.model.specs.Table.{Line, Entry, Slot, free, held, Table, of_address, held_of}
+use Rattle.model.specs.Table.{Line, Entry, Slot, free, held, Table}
 use Rattle.model.specs.Rules.{Holding, holding, entries_of, holdings, Counts, held_by, share_of, limit_of, reserve, full}
 use Rattle.model.specs.Sound.{live, Sound}
 use Rattle.model.specs.Serve.{slot_run_out, free_if_run_out, is_free, has, find_entry, slot_of}
@@ -47,13 +47,6 @@ module _ (r : ℕ) where
   count_entries [] p = refl
   count_entries (free ∷ s) p = omega (arith, count_entries s p)
   count_entries (held e ∷ s) p = ap (λ (z : ℕ). bit (p (holding r e)) + z) (count_entries s p)
-
-  -- held beside a line is the count of the rules
-  pub held-count : (s : List Slot) (a : ℕ) → held_of s a ≡ count (entries_of r s) (held_by a)
-  unfolding entries_of of_address
-  held-count [] a = refl
-  held-count (free ∷ s) a = omega (arith, held-count s a)
-  held-count (held e ∷ s) a = ap (λ (z : ℕ). bit (eqb e.address a) + z) (held-count s a)
 
   -- entries and free slots are all slots
   pub count-free : (s : List Slot) → count (entries_of r s) any + count s is_free ≡ length s

@@ -52,8 +52,8 @@ module _ (b : List ℕ) (bytes : Bytes b) where
         place = big_lt b 1 (place_bytes l) bytes;
         running = big_lt b (running_at l) 4 bytes;
         lines = λ i h.
-            let m = (rw (length-up_to (listed l.lines (drop (lines_at l) b) 16) (λ j. read_line b (line_at l j))) at h) in
-            rw (get_or-up_to (listed l.lines (drop (lines_at l) b) 16) (λ j. read_line b (line_at l j)) i no_line m) (fits_line (line_at l i));
+            let m = (rw (length-up_to (listed (drop (lines_at l) b) 16) (λ j. read_line b (line_at l j))) at h) in
+            rw (get_or-up_to (listed (drop (lines_at l) b) 16) (λ j. read_line b (line_at l j)) i no_line m) (fits_line (line_at l i));
         slots = λ i h.
             let m = (rw (length-up_to (slots_in (length b)) (λ j. read_slot b (slot_at l j))) at h) in
             rw (get_or-up_to (slots_in (length b)) (λ j. read_slot b (slot_at l j)) i free m) (fits-slot (slot_at l i));
@@ -63,7 +63,7 @@ pub lines-read : (b : List ℕ) → length (read_table b).roster ≤ 16
 unfolding read_table
 lines-read b =
     let l = layout_of (length b) in
-    rw (length-up_to (listed l.lines (drop (lines_at l) b) 16) (λ j. read_line b (line_at l j))) (listed_le l.lines (drop (lines_at l) b) 16)
+    rw (length-up_to (listed (drop (lines_at l) b) 16) (λ j. read_line b (line_at l j))) (listed_le (drop (lines_at l) b) 16)
 
 pub slots_read : (b : List ℕ) → length (read_table b).slots ≡ slots_in (length b)
 unfolding read_table

@@ -260,8 +260,3 @@ bytes-encode (f ∷ fs) = bytes-append (bytes_of f.0 f.1) (encode fs) (bytes-of 
 pub bytes-zeros : (n : ℕ) → Bytes (replicate n 0)
 bytes-zeros zero = bytes-nil
 bytes-zeros (suc n) = bytes-cons 0 (replicate n 0) (lit< tt) (bytes-zeros n)
-
-pub encode-append : (f g : List (ℕ × ℕ)) → encode (f ++ g) ≡ encode f ++ encode g
-unfolding encode
-encode-append [] g = refl
-encode-append (x ∷ f) g = ap (λ (s : List ℕ). bytes_of x.0 x.1 ++ s) (encode-append f g) ∙ sym (append_assoc (bytes_of x.0 x.1) (encode f) (encode g))

@@ -10,7 +10,7 @@ use lib.Seq.{get_or_at, take_at, drop_at}
 use lib.Dec.{eqb, lit<}
 use Rattle.model.specs.Numbers.{big_endian, part, encode}
 use Rattle.model.proofs.Fields.{offset}
-use Rattle.model.specs.Table.{Line, LineForm, plain, counted, Entry, Slot, free, held, line_size, listed_kind, unused_kind, held_field, entry_fields, kind_of, slot_bytes, line_bytes, unused_line, read_line, read_entry, read_slot}
+use Rattle.model.specs.Table.{Line, Entry, Slot, free, held, entry_fields, kind_of, slot_bytes, line_bytes, unused_line, read_line, read_entry, read_slot}
 use Rattle.model.specs.Sound.{FitsEntry, FitsSlot, FitsLine}
 use Rattle.model.proofs.NumberLaws.{length-encode, big-one, big-skip, field_at}
 
@@ -24,27 +24,13 @@ unfolding slot_bytes
 length-slot free h = refl
 length-slot (held e) h = simp (length-append, length-encode, length-replicate) (omega arith)
 
-pub length-line : (f : LineForm) (h : ℕ) (l : Line) → length (line_bytes f h l) ≡ line_size f
+pub length-line : (l : Line) → length (line_bytes l) ≡ 19
 unfolding line_bytes
-length-line plain h l = length-encode _
-length-line counted h l = length-encode _
+length-line l = length-encode _
 
-pub length-unused : (f : LineForm) → length (unused_line f) ≡ line_size f
+pub length-unused : length unused_line ≡ 19
 unfolding unused_line
-length-unused plain = refl
-length-unused counted = refl
-
--- a line's fields, and that kinds are bytes
-abbrev pub line_fields : LineForm → ℕ → Line → List (ℕ × ℕ)
-line_fields f h l = (1, listed_kind f) ∷ (16, l.address) ∷ (1, l.share) ∷ (1, l.limit) ∷ held_field f h
-
-pub listed-byte : (f : LineForm) → listed_kind f < 256
-listed-byte plain = lit< tt
-listed-byte counted = lit< tt
-
-pub unused-byte : (f : LineForm) → unused_kind f < 256
-unused-byte plain = lit< tt
-unused-byte counted = lit< tt
+length-unused = refl
 
 pub kind-lt : (b : Bool) → kind_of b < 256
 kind-lt true = lit< tt
@@ -114,25 +100,21 @@ fits-short free f = tt
 fits-short (held e) f = f.size
 
 -- a line behind k bytes
-module _ (p : List ℕ) (k : ℕ) (f : LineForm) (h : ℕ) (l : Line) (q : List ℕ) (pk : length p ≡ k) (v : FitsLine l) where
-  pub line-kind : get_or (p ++ (line_bytes f h l ++ q)) k 0 ≡ listed_kind f
+module _ (p : List ℕ) (k : ℕ) (l : Line) (q : List ℕ) (pk : length p ≡ k) (f : FitsLine l) where
+  pub line-kind : get_or (p ++ (line_bytes l ++ q)) k 0 ≡ 3
   unfolding line_bytes
-  line-kind = sym (big-one _ k) ∙ (rw add-zero at (field-behind p k (line_fields f h l) q 0 pk (omega arith) (listed-byte f)))
+  line-kind =
+      sym (big-one _ k)
+      ∙ (rw add-zero at (field-behind p k ((1, 3) ∷ (16, l.address) ∷ (1, l.share) ∷ (1, l.limit) ∷ []) q 0 pk (lit< tt) (lit< tt)))
 
-  pub line-back : read_line (p ++ (line_bytes f h l ++ q)) k ≡ l
+  pub line-back : read_line (p ++ (line_bytes l ++ q)) k ≡ l
   unfolding line_bytes read_line
   line-back =
-      let fs : List (ℕ × ℕ) = line_fields f h l in
+      let fs : List (ℕ × ℕ) = (1, 3) ∷ (16, l.address) ∷ (1, l.share) ∷ (1, l.limit) ∷ [] in
       rw (
         ← big-one (p ++ (encode fs ++ q)) (k + 17),
         ← big-one (p ++ (encode fs ++ q)) (k + 18),
-        field-behind p k fs q 1 pk (omega arith) v.address,
-        field-behind p k fs q 2 pk (omega arith) v.share,
-        field-behind p k fs q 3 pk (omega arith) v.limit,
+        field-behind p k fs q 1 pk (lit< tt) f.address,
+        field-behind p k fs q 2 pk (lit< tt) f.share,
+        field-behind p k fs q 3 pk (lit< tt) f.limit,
       )
-
--- held behind k bytes, where it is kept
-pub held_back : (p : List ℕ) (k h : ℕ) (l : Line) (q : List ℕ) → length p ≡ k → h < 256
-    → get_or (p ++ (line_bytes counted h l ++ q)) (k + 19) 0 ≡ h
-unfolding line_bytes
-held_back p k h l q pk v = sym (big-one _ (k + 19)) ∙ field-behind p k (line_fields counted h l) q 4 pk (lit< tt) v

@@ -8,15 +8,15 @@ use mathlib.Core.List.{List, [], ◌∷◌, ◌++◌, append_assoc}
 use lib.ListN.{length, get_or, take, drop, set, replicate, length-append}
 use lib.Seq.{split_at, set_split, length-take-le, get_or-take}
 use lib.Dec.{lit<}
-use Rattle.model.specs.Lists.{bit, up_to, flat}
+use Rattle.model.specs.Lists.{up_to, flat}
 use Rattle.model.specs.Numbers.{Bytes, splice, encode}
 use Rattle.model.specs.Clock.{Clock, Weeks, ten_bit, thirteen_bit}
-use Rattle.model.specs.Table.{Line, LineForm, plain, counted, Slot, free, held, Layout, Table, line_size, unused_kind, held_field, of_address, held_of, slot_bytes, line_bytes, unused_line, roster_bytes, kind_with, clock_kind, place_bytes, clock_bytes, table_bytes, lines_at, base, slot_at, size_of}
+use Rattle.model.specs.Table.{Line, Slot, free, held, Layout, Table, slot_bytes, line_bytes, unused_line, roster_bytes, kind_with, clock_kind, place_bytes, clock_bytes, table_bytes, lines_at, base, slot_at, size_of}
 use Rattle.model.specs.Sound.{FitsSlot, Fits}
 use Rattle.model.specs.Serve.{with_slot, with_clock}
 use Rattle.model.proofs.NumberLaws.{splice-none, splice-splice, splice-mid, length-encode, encode-first, bytes-nil, bytes-append, bytes-cons, bytes-encode, bytes-zeros}
-use Rattle.model.proofs.ListLaws.{count_set, get_d_any, up_to-none, flat_append, flat-next, length-flat, length-rows}
-use Rattle.model.proofs.SlotLaws.{fits-short, length-slot, length-line, length-unused, unused-byte}
+use Rattle.model.proofs.ListLaws.{get_d_any, up_to-none, flat_append, flat-next, length-flat, length-rows}
+use Rattle.model.proofs.SlotLaws.{fits-short, length-slot, length-line, length-unused}
 
 -- ROWS of one width
 module _ {A : Type 0} (f : A → List ℕ) where
@@ -56,21 +56,12 @@ module _ {A : Type 0} (f : A → List ℕ) where
         rw (e, flat-next f i g) (splice-splice at (w * i) w (flat f (up_to i g)) (f (g i)) s (length-rows f w i g (λ j l. ok j)) (rw e at h))
 
 -- LENGTHS
--- a line's row, of addresses that hold as many entries as c says
-abbrev pub row_of : LineForm → (ℕ → ℕ) → Line → List ℕ
-row_of f c l = line_bytes f (c l.address) l
-
--- 16 lines, of which m are listed
-pub line-sum : (f : LineForm) (m : ℕ) → m ≤ 16 → line_size f * m + line_size f * (16 - m) ≡ line_size f * 16
-line-sum plain m h = omega arith
-line-sum counted m h = omega arith
-
-pub length-roster : (f : LineForm) (c : ℕ → ℕ) (ls : List Line) → length ls ≤ 16 → length (roster_bytes f c ls) ≡ line_size f * 16
+pub length-roster : (ls : List Line) → length ls ≤ 16 → length (roster_bytes ls) ≡ 304
 unfolding roster_bytes
-length-roster f c ls h =
-    let l1 = length-flat (row_of f c) (line_size f) ls (λ i d l. length-line f (c (get_or ls i d).address) (get_or ls i d)) in
-    let l2 = length-rows (λ (i : ℕ). unused_line f) (line_size f) (16 - length ls) (λ i. i) (λ i l. length-unused f) in
-    rw (length-append, l1, l2) (line-sum f (length ls) h)
+length-roster ls h =
+    let l1 = length-flat line_bytes 19 ls (λ i d l. length-line (get_or ls i d)) in
+    let l2 = length-rows (λ (i : ℕ). unused_line) 19 (16 - length ls) (λ i. i) (λ i l. length-unused) in
+    rw (length-append, l1, l2) (omega arith)
 
 pub length-clock : (l : Layout) (c : Clock) → length (clock_bytes l c) ≡ lines_at l
 unfolding clock_bytes
@@ -90,20 +81,20 @@ unfolding flat
 bytes-flat f d [] h = bytes-nil
 bytes-flat f d (x ∷ l) h = bytes-append (f x) (flat f l) (h 0 (omega arith)) (bytes-flat f d l (λ i m. h (suc i) (omega arith)))
 
-bytes-line : (f : LineForm) (h : ℕ) (l : Line) → Bytes (line_bytes f h l)
+bytes-line : (l : Line) → Bytes (line_bytes l)
 unfolding line_bytes
-bytes-line f h l = bytes-encode _
+bytes-line l = bytes-encode _
 
-bytes-unused : (f : LineForm) → Bytes (unused_line f)
+bytes-unused : Bytes unused_line
 unfolding unused_line
-bytes-unused f = bytes-cons (unused_kind f) (replicate (line_size f - 1) 0) (unused-byte f) (bytes-zeros (line_size f - 1))
+bytes-unused = bytes-cons 2 (replicate 18 0) (lit< tt) (bytes-zeros 18)
 
-pub bytes-roster : (f : LineForm) (c : ℕ → ℕ) (ls : List Line) → Bytes (roster_bytes f c ls)
+pub bytes-roster : (ls : List Line) → Bytes (roster_bytes ls)
 unfolding roster_bytes
-bytes-roster f c ls =
-    bytes-append (flat (row_of f c) ls) (flat (λ (i : ℕ). unused_line f) (up_to (16 - length ls) (λ i. i)))
-    (bytes-flat (row_of f c) (record { address = 0; share = 0; limit = 0 }) ls (λ i m. bytes-line f _ _))
-    (bytes-flat (λ (i : ℕ). unused_line f) 0 (up_to (16 - length ls) (λ i. i)) (λ i m. bytes-unused f))
+bytes-roster ls =
+    bytes-append (flat line_bytes ls) (flat (λ (i : ℕ). unused_line) (up_to (16 - length ls) (λ i. i)))
+    (bytes-flat line_bytes (record { address = 0; share = 0; limit = 0 }) ls (λ i m. bytes-line _))
+    (bytes-flat (λ (i : ℕ). unused_line) 0 (up_to (16 - length ls) (λ i. i)) (λ i m. bytes-unused))
 
 bytes-clock : (l : Layout) (c : Clock) → Bytes (clock_bytes l c)
 unfolding clock_bytes
@@ -112,68 +103,32 @@ bytes-clock l c = bytes-encode _
 pub bytes-table : (t : Table) → Fits t → Bytes (table_bytes t)
 unfolding table_bytes
 bytes-table t f =
-    let r = roster_bytes t.layout.lines (held_of t.slots) t.roster in
-    bytes-append (clock_bytes t.layout t.clock) (r ++ flat slot_bytes t.slots) (bytes-clock t.layout t.clock)
-    (bytes-append r (flat slot_bytes t.slots) (bytes-roster t.layout.lines (held_of t.slots) t.roster)
+    bytes-append (clock_bytes t.layout t.clock) (roster_bytes t.roster ++ flat slot_bytes t.slots) (bytes-clock t.layout t.clock)
+    (bytes-append (roster_bytes t.roster) (flat slot_bytes t.slots) (bytes-roster t.roster)
     (bytes-flat slot_bytes free t.slots (λ i m. bytes-slot (get_or t.slots i free) (f.slots i m))))
 
--- THE LINES BY WHAT IS HELD
-
--- counts that the lines do not tell apart write the same: of plain lines any two, of counted ones those that agree
-module _ (f : LineForm) (c d : ℕ → ℕ) (e : (a : ℕ) → held_field f (c a) ≡ held_field f (d a)) where
-  rows_ext : (ls : List Line) → flat (row_of f c) ls ≡ flat (row_of f d) ls
-  unfolding flat line_bytes
-  rows_ext [] = refl
-  rows_ext (l ∷ ls) = rw (e l.address, rows_ext ls)
-
-  pub roster-ext : (ls : List Line) → roster_bytes f c ls ≡ roster_bytes f d ls
-  unfolding roster_bytes
-  roster-ext ls = rw (rows_ext ls)
-
 -- WRITTEN OVER
-
--- a slot is written: how many slots an address has after it, with what the slot held before, is how many it had before with what it holds now
-pub held-written : (s : List Slot) (i : ℕ) (x : Slot) (a : ℕ) → i < length s → held_of (set s i x) a + bit (of_address a (get_or s i free)) ≡ held_of s a + bit (of_address a x)
-held-written s i x a h = count_set s i x free (of_address a) h
 
 module _ (t : Table) (lines : length t.roster ≤ 16) (f : Fits t) where
   pub fits-rows : (i : ℕ) (d : Slot) → i < length t.slots → length (slot_bytes (get_or t.slots i d)) ≡ 320
   fits-rows i d l = rw (get_d_any t.slots i d free l) (length-slot (get_or t.slots i free) (fits-short (get_or t.slots i free) (f.slots i l)))
 
-  -- the bytes before the slots, of addresses that hold as many entries as c says
-  abbrev head_of : (ℕ → ℕ) → List ℕ
-  head_of c = clock_bytes t.layout t.clock ++ roster_bytes t.layout.lines c t.roster
-
-  pub length-head : (c : ℕ → ℕ) → length (head_of c) ≡ base t.layout
-  length-head c = rw (length-append, length-clock t.layout t.clock, length-roster t.layout.lines c t.roster lines)
+  length-head : length (clock_bytes t.layout t.clock ++ roster_bytes t.roster) ≡ base t.layout
+  length-head = rw (length-append, length-clock t.layout t.clock, length-roster t.roster lines)
 
   pub length-table : length (table_bytes t) ≡ size_of t.layout (length t.slots)
   unfolding table_bytes
   length-table =
-      sym (ap length (append_assoc (clock_bytes t.layout t.clock) (roster_bytes t.layout.lines (held_of t.slots) t.roster) (flat slot_bytes t.slots)))
-      ∙ length-append (head_of (held_of t.slots)) (flat slot_bytes t.slots)
-      ∙ (rw (length-head (held_of t.slots), length-flat slot_bytes 320 t.slots fits-rows))
+      rw (length-append, length-append, length-clock t.layout t.clock, length-roster t.roster lines, length-flat slot_bytes 320 t.slots fits-rows)
+      (omega arith)
 
-  -- slot i written over, behind lines that already say what is held then: the table with that slot
-  pub with-slot-held : (i : ℕ) (s : Slot) → i < length t.slots
-      → splice (slot_at t.layout i) 320 (slot_bytes s) (head_of (held_of (set t.slots i s)) ++ flat slot_bytes t.slots) ≡ table_bytes (with_slot t i s)
+  -- slot i written over: the table with that slot
+  pub with-slot : (i : ℕ) (s : Slot) → i < length t.slots → splice (slot_at t.layout i) 320 (slot_bytes s) (table_bytes t) ≡ table_bytes (with_slot t i s)
   unfolding table_bytes
-  with-slot-held i s h =
-      let c = held_of (set t.slots i s) in
-      flat-set slot_bytes 320 t.slots fits-rows (head_of c) (base t.layout) i s (length-head c) h
-      ∙ append_assoc (clock_bytes t.layout t.clock) (roster_bytes t.layout.lines c t.roster) (flat slot_bytes (set t.slots i s))
-
-  -- where the lines say the same before and after, the slot alone is written
-  pub with-slot : (i : ℕ) (s : Slot) → i < length t.slots
-      → ((a : ℕ) → held_field t.layout.lines (held_of t.slots a) ≡ held_field t.layout.lines (held_of (set t.slots i s) a))
-      → splice (slot_at t.layout i) 320 (slot_bytes s) (table_bytes t) ≡ table_bytes (with_slot t i s)
-  unfolding table_bytes
-  with-slot i s h e =
-      ap (splice (slot_at t.layout i) 320 (slot_bytes s))
-      (sym (append_assoc (clock_bytes t.layout t.clock) (roster_bytes t.layout.lines (held_of t.slots) t.roster) (flat slot_bytes t.slots))
-      ∙ ap (λ (r : List ℕ). (clock_bytes t.layout t.clock ++ r) ++ flat slot_bytes t.slots)
-      (roster-ext t.layout.lines (held_of t.slots) (held_of (set t.slots i s)) e t.roster))
-      ∙ with-slot-held i s h
+  with-slot i s h =
+      sym (ap (splice (slot_at t.layout i) 320 (slot_bytes s)) (append_assoc (clock_bytes t.layout t.clock) (roster_bytes t.roster) (flat slot_bytes t.slots)))
+      ∙ flat-set slot_bytes 320 t.slots fits-rows (clock_bytes t.layout t.clock ++ roster_bytes t.roster) (base t.layout) i s length-head h
+      ∙ append_assoc (clock_bytes t.layout t.clock) (roster_bytes t.roster) (flat slot_bytes (set t.slots i s))
 
 -- the clock's bytes behind its kind written over: the table with that clock
 abbrev pub clock_fields : Layout → Clock → List (ℕ × ℕ)
@@ -198,4 +153,4 @@ over-clock l c d q =
 pub with-clock : (t : Table) (c : Clock)
     → splice 1 (place_bytes t.layout + 4) (encode (clock_fields t.layout c)) (table_bytes t) ≡ table_bytes (with_clock t c)
 unfolding table_bytes
-with-clock t c = over-clock t.layout t.clock c (roster_bytes t.layout.lines (held_of t.slots) t.roster ++ flat slot_bytes t.slots)
+with-clock t c = over-clock t.layout t.clock c (roster_bytes t.roster ++ flat slot_bytes t.slots)

@@ -1,10 +1,9 @@
--- Document 01's three calls, and document 02's two moves (Ticket 10): from arguments and lent bytes to the numbered answer and the bytes left.
--- Assumes nothing.
-use Rattle.std.specs.Prelude.{ℕ, zero, suc, ◌+◌, ◌*◌, ◌/◌, Bool, true, false, not, cond, ◌&&◌, ◌||◌, List, [], ◌∷◌, ◌++◌, length, get_or, drop, replicate, eqb, leb, ltb}
+-- Document 01's three calls: from arguments and lent bytes to the numbered answer and the bytes left. Assumes nothing.
+use Rattle.std.specs.Prelude.{ℕ, zero, suc, ◌+◌, ◌*◌, ◌/◌, Bool, not, cond, ◌&&◌, ◌||◌, List, [], ◌∷◌, ◌++◌, length, get_or, drop, replicate, eqb, leb, ltb}
 use Rattle.model.specs.Lists.{count, every, up_to}
 use Rattle.model.specs.Clock.{valid_reading, place_of, advance}
 use Rattle.model.specs.Query.{wrong_size, good_header, qdcount, good_questions, questions_end, good_opt, llq_options, matched, question, llq_option}
-use Rattle.model.specs.Table.{Line, LineForm, plain, counted, free, Layout, Table, table_bytes, read_table, read_line, size_of, layout_of, slots_in, cycle_in}
+use Rattle.model.specs.Table.{Line, free, Table, table_bytes, read_table, read_line, size_of, layout_of, slots_in, cycle_in}
 use Rattle.model.specs.Sound.{sound_bytes, sound_roster}
 use Rattle.model.specs.Serve.{Sender, Outcome, serve_option, slot_run_out, moved_on}
 use Rattle.model.specs.Reply.{reply_bytes, reply_length, mismatch}
@@ -40,11 +39,6 @@ pub record Made : Type 0 where
 pub record Ticked : Type 0 where
   pub number : ℕ
   pub freed : ℕ
-  pub table : List ℕ
-
-pub record Moved : Type 0 where
-  pub number : ℕ
-  -- the target
   pub table : List ℕ
 
 pub record Answered : Type 0 where
@@ -165,42 +159,3 @@ served_by (suc k) c b reply = record { number = suc k; length = 0; table = b; re
 
 unfoldable pub serve : ServeCall → List ℕ → List ℕ → Answered
 serve c b reply = served_by (serve_refusal c b) c b reply
-
--- MOVING A TABLE from lines of one form to lines of the other. It takes no reading: the clock stays, and nothing runs out.
-
-abbrev pub same_form : LineForm → LineForm → Bool
-same_form plain plain = true
-same_form plain counted = false
-same_form counted plain = false
-same_form counted counted = true
-
--- the same weeks, and lines of form f
-abbrev pub layout_with : LineForm → Layout → Layout
-layout_with f l = record { weeks = l.weeks; lines = f }
-
--- all else is kept: the clock, the roster in its order, the slots in their places
-abbrev pub with_lines : LineForm → Table → Table
-with_lines f t = record { layout = layout_with f t.layout; clock = t.clock; roster = t.roster; slots = t.slots }
-
--- the source is not a sound table whose lines are of the other form, or the target's length is not that of its table with lines of form f
-unfoldable pub move_refusal : LineForm → List ℕ → ℕ → ℕ
-move_refusal f source size =
-    let l = layout_of (length source) in
-    refusal
-    ((1, not (sound_bytes source) || same_form f l.lines || not (eqb size (size_of (layout_with f l) (slots_in (length source)))))
-    ∷ [])
-
--- the target's old bytes are not looked at
-abbrev pub moved_by : ℕ → LineForm → List ℕ → List ℕ → Moved
-moved_by zero f source target = record { number = 0; table = table_bytes (with_lines f (read_table source)) }
-moved_by (suc k) f source target = record { number = suc k; table = target }
-
-unfoldable pub move_to : LineForm → List ℕ → List ℕ → Moved
-move_to f source target = moved_by (move_refusal f source (length target)) f source target
-
--- from 313 or 317 + 320n bytes to 16 more, and back
-abbrev pub to_held : List ℕ → List ℕ → Moved
-to_held = move_to counted
-
-abbrev pub from_held : List ℕ → List ℕ → Moved
-from_held = move_to plain

@@ -1,18 +1,16 @@
 -- What the public contracts state: the call's answer and the bytes at exit are the model's, for all inputs. Assumes nothing.
 use Rattle.std.specs.Prelude.{ℕ, ◌≡◌, List}
-use Rattle.model.specs.Calls.{MakeCall, TickCall, ServeCall, Made, Ticked, Answered, Moved, make, tick, serve, to_held, from_held}
+use Rattle.model.specs.Calls.{MakeCall, TickCall, ServeCall, Made, Ticked, Answered, make, tick, serve}
 
--- a server: making, ticking and serving, on the table's bytes and the reply buffer's; the two moves, on the source's bytes and the target's
+-- a server: making, ticking and serving, on the table's bytes and the reply buffer's
 pub record Server : Type 0 where
   pub make : MakeCall → List ℕ → Made
   pub tick : TickCall → List ℕ → Ticked
   pub serve : ServeCall → List ℕ → List ℕ → Answered
-  pub to_held : List ℕ → List ℕ → Moved
-  pub from_held : List ℕ → List ℕ → Moved
 
 -- the model's
 abbrev pub model : Server
-model = record { make = make; tick = tick; serve = serve; to_held = to_held; from_held = from_held }
+model = record { make = make; tick = tick; serve = serve }
 
 -- a call of a server, from the bytes before to the numbers returned and the bytes after
 pub record Makes (s : Server) (c : MakeCall) (before after : List ℕ) (n : ℕ) : Type 0 where
@@ -30,11 +28,6 @@ pub record Serves (s : Server) (c : ServeCall) (before after lent left : List �
   pub table : after ≡ (s.serve c before lent).table
   pub reply : left ≡ (s.serve c before lent).reply
 
--- a move, by the call that it is
-pub record Moves (move : List ℕ → List ℕ → Moved) (source before after : List ℕ) (n : ℕ) : Type 0 where
-  pub number : n ≡ (move source before).number
-  pub table : after ≡ (move source before).table
-
 abbrev pub MakeMeets : MakeCall → List ℕ → List ℕ → ℕ → Type 0
 MakeMeets = Makes model
 
@@ -43,9 +36,3 @@ TickMeets = Ticks model
 
 abbrev pub ServeMeets : ServeCall → List ℕ → List ℕ → List ℕ → List ℕ → ℕ → ℕ → Type 0
 ServeMeets = Serves model
-
-abbrev pub ToHeldMeets : List ℕ → List ℕ → List ℕ → ℕ → Type 0
-ToHeldMeets = Moves model.to_held
-
-abbrev pub FromHeldMeets : List ℕ → List ℕ → List ℕ → ℕ → Type 0
-FromHeldMeets = Moves model.from_held

@@ -1,6 +1,6 @@
 -- Document 01, "The table": what it holds, and its layout in bytes. Assumes nothing.
-use Rattle.std.specs.Prelude.{ℕ, zero, suc, ◌+◌, ◌-◌, ◌*◌, ◌/◌, ◌%◌, Bool, false, cond, ◌&&◌, ◌||◌, List, [], ◌∷◌, ◌++◌, length, get_or, drop, replicate, eqb}
-use Rattle.model.specs.Lists.{count, up_to, flat}
+use Rattle.std.specs.Prelude.{ℕ, zero, suc, ◌+◌, ◌-◌, ◌*◌, ◌/◌, ◌%◌, Bool, cond, ◌&&◌, ◌||◌, List, [], ◌∷◌, ◌++◌, length, get_or, drop, replicate, eqb}
+use Rattle.model.specs.Lists.{up_to, flat}
 use Rattle.model.specs.Numbers.{big_endian, part, encode}
 use Rattle.model.specs.Clock.{Clock, Weeks, ten_bit, thirteen_bit, cycle_of}
 
@@ -26,15 +26,9 @@ pub data Slot : Type 0 where
   free : Slot
   held : Entry → Slot
 
--- how roster lines are written: without what their address holds, or with it beside the limit (document 02, Ticket 10)
-pub data LineForm : Type 0 where
-  plain : LineForm
-  counted : LineForm
-
--- how a table is laid out: by the weeks that its clock counts (document 02, Ticket 7), and by the form of its lines
+-- how a table is laid out: by the weeks that its clock counts (document 02, Ticket 7)
 pub record Layout : Type 0 where
   pub weeks : Weeks
-  pub lines : LineForm
 
 -- listed addresses alone: the unused roster lines hold nothing
 pub record Table : Type 0 where
@@ -64,33 +58,13 @@ place_bytes l = place_width l.weeks
 unfoldable pub clock_bytes : Layout → Clock → List ℕ
 clock_bytes l c = encode ((1, clock_kind l) ∷ (place_bytes l, c.place) ∷ (4, c.running) ∷ [])
 
--- a line's bytes with its kind: 19, or with held 20
-abbrev pub line_size : LineForm → ℕ
-line_size plain = 19
-line_size counted = 20
+-- 0x02, body 18: an unused roster line, all zero
+unfoldable pub unused_line : List ℕ
+unused_line = 2 ∷ replicate 18 0
 
--- a listed line's kind: 0x03, or 0x0B
-abbrev pub listed_kind : LineForm → ℕ
-listed_kind plain = 3
-listed_kind counted = 11
-
--- an unused line's: 0x02, or 0x0D
-abbrev pub unused_kind : LineForm → ℕ
-unused_kind plain = 2
-unused_kind counted = 13
-
--- 0x02, body 18, or 0x0D, body 19: an unused roster line, all zero
-unfoldable pub unused_line : LineForm → List ℕ
-unused_line f = unused_kind f ∷ replicate (line_size f - 1) 0
-
--- what a line says of the entries that its address holds: nothing, or how many there are, 1
-abbrev pub held_field : LineForm → ℕ → List (ℕ × ℕ)
-held_field plain h = []
-held_field counted h = (1, h) ∷ []
-
--- 0x03, body 18: listed address 16, share 1, limit 1; or 0x0B, body 19: the same, and held 1
-unfoldable pub line_bytes : LineForm → ℕ → Line → List ℕ
-line_bytes f h l = encode ((1, listed_kind f) ∷ (16, l.address) ∷ (1, l.share) ∷ (1, l.limit) ∷ held_field f h)
+-- 0x03, body 18: listed address 16, share 1, limit 1
+unfoldable pub line_bytes : Line → List ℕ
+line_bytes l = encode ((1, 3) ∷ (16, l.address) ∷ (1, l.share) ∷ (1, l.limit) ∷ [])
 
 -- 0x05 pending, 0x06 established
 abbrev pub kind_of : Bool → ℕ
@@ -107,23 +81,13 @@ unfoldable pub slot_bytes : Slot → List ℕ
 slot_bytes free = 4 ∷ replicate 319 0
 slot_bytes (held e) = encode (entry_fields e) ++ (e.name ++ replicate (280 - length e.name) 0)
 
--- the slot holds an entry of this address, pending or established, of whatever port
-unfoldable pub of_address : ℕ → Slot → Bool
-of_address a free = false
-of_address a (held e) = eqb e.address a
+-- 16 roster lines, the listed ones first
+unfoldable pub roster_bytes : List Line → List ℕ
+roster_bytes ls = flat line_bytes ls ++ flat (λ (i : ℕ). unused_line) (up_to (16 - length ls) (λ i. i))
 
--- how many of the slots do
-abbrev pub held_of : List Slot → ℕ → ℕ
-held_of s a = count s (of_address a)
-
--- 16 roster lines, the listed ones first, of addresses that hold as many entries as c says
-unfoldable pub roster_bytes : LineForm → (ℕ → ℕ) → List Line → List ℕ
-roster_bytes f c ls = flat (λ l. line_bytes f (c l.address) l) ls ++ flat (λ (i : ℕ). unused_line f) (up_to (16 - length ls) (λ i. i))
-
--- one clock record, 16 roster lines, the slots. Held is counted from the slots: a table has no other.
+-- one clock record, 16 roster lines, the slots
 unfoldable pub table_bytes : Table → List ℕ
-table_bytes t =
-    clock_bytes t.layout t.clock ++ (roster_bytes t.layout.lines (held_of t.slots) t.roster ++ flat slot_bytes t.slots)
+table_bytes t = clock_bytes t.layout t.clock ++ (roster_bytes t.roster ++ flat slot_bytes t.slots)
 
 -- THE PLACES that follow from it
 
@@ -134,30 +98,26 @@ running_at l = 1 + place_bytes l
 abbrev pub lines_at : Layout → ℕ
 lines_at l = running_at l + 4
 
--- where the slots start: behind 16 lines
+-- where the slots start: behind 16 lines of 19 bytes
 abbrev pub base : Layout → ℕ
-base l = lines_at l + line_size l.lines * 16
+base l = lines_at l + 19 * 16
 
 abbrev pub line_at : Layout → ℕ → ℕ
-line_at l i = lines_at l + line_size l.lines * i
+line_at l i = lines_at l + 19 * i
 
 abbrev pub slot_at : Layout → ℕ → ℕ
 slot_at l i = base l + 320 * i
 
--- the length of a table of n slots: 313, 317, 329 or 333 + 320n
+-- the length of a table of n slots: 313 + 320n, or 317 + 320n
 abbrev pub size_of : Layout → ℕ → ℕ
 size_of l n = base l + 320 * n
 
--- the length alone says which layout a table has: the four differ in the rest modulo 320, which is 313, 317, 9 or 13; a length of any other
--- rest is no table's
+-- the length alone says which layout a table has: the two differ in the rest modulo 320; a length of any other rest is no table's
 abbrev pub weeks_for : ℕ → Weeks
-weeks_for size = cond (eqb (size % 320) 317 || eqb (size % 320) 13) thirteen_bit ten_bit
-
-abbrev pub form_for : ℕ → LineForm
-form_for size = cond (eqb (size % 320) 9 || eqb (size % 320) 13) counted plain
+weeks_for size = cond (eqb (size % 320) 317) thirteen_bit ten_bit
 
 unfoldable pub layout_of : ℕ → Layout
-layout_of size = record { weeks = weeks_for size; lines = form_for size }
+layout_of size = record { weeks = weeks_for size }
 
 -- the slots of a table of a length
 abbrev pub slots_in : ℕ → ℕ
@@ -189,18 +149,18 @@ read_entry b at =
 unfoldable pub read_slot : List ℕ → ℕ → Slot
 read_slot b at = cond (eqb (get_or b at 0) 5 || eqb (get_or b at 0) 6) (held (read_entry b at)) free
 
--- of bytes that start with the lines: how many listed ones stand first, of m
-unfoldable pub listed : LineForm → List ℕ → ℕ → ℕ
-listed f b zero = 0
-listed f b (suc m) = cond (eqb (listed f b m) m && eqb (get_or b (line_size f * m) 0) (listed_kind f)) (suc m) (listed f b m)
+-- of bytes that start with the lines: how many of kind 3 stand first, of m
+unfoldable pub listed : List ℕ → ℕ → ℕ
+listed b zero = 0
+listed b (suc m) = cond (eqb (listed b m) m && eqb (get_or b (19 * m) 0) 3) (suc m) (listed b m)
 
--- by the layout l of n slots. Held is not read: `sound_bytes` (model, Sound) asks that it is what the table read would write.
+-- by the layout l of n slots
 abbrev pub read_as : Layout → ℕ → List ℕ → Table
 read_as l n b =
     record {
       layout = l;
       clock = record { place = big_endian b 1 (place_bytes l); running = big_endian b (running_at l) 4 };
-      roster = up_to (listed l.lines (drop (lines_at l) b) 16) (λ i. read_line b (line_at l i));
+      roster = up_to (listed (drop (lines_at l) b) 16) (λ i. read_line b (line_at l i));
       slots = up_to n (λ i. read_slot b (slot_at l i));
     }
 

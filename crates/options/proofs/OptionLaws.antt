@@ -1,5 +1,6 @@
 -- Laws for one option served: one for each way out of setup, response and refresh. Assumes nothing.
-use Prim.Native.Nat.{ℕ, ◌+◌, ◌*◌, ◌≤◌, ◌<◌}
+use Prim.Native.Nat.{ℕ, suc, ◌+◌, ◌*◌, ◌^◌, ◌≤◌, ◌<◌}
+use native.Mathlib.Nat.{lt_of_lt_of_le, mul-le-mul_right}
 use native.Mathlib.Omega.{arith}
 use mathlib.Core.Path.{◌≡◌, refl, sym, ap, ◌∙◌, subst}
 use mathlib.Core.Bool.{Bool, true, false, cond, true≢false}
@@ -13,7 +14,7 @@ use Rattle.model.specs.Numbers.{Bytes, big_endian, bytes_of, splice, encode}
 use Rattle.model.specs.Clock.{age_at}
 use Rattle.model.specs.Query as query
 use Rattle.model.specs.Table as table
-use Rattle.model.specs.Table.{LineForm, held_of, free, held, Layout, Table, line_size, running_at, lines_at, base, slot_at, layout_of, slots_in, size_of, read_table, read_slot, read_entry, listed}
+use Rattle.model.specs.Table.{free, held, Layout, Table, running_at, lines_at, base, slot_at, layout_of, slots_in, size_of, read_table, read_slot, read_entry, slot_bytes, listed}
 use Rattle.model.specs.Rules.{Holding, holdings, asks, full, granted_lease, fresh_number}
 use Rattle.model.specs.Sound.{FitsEntry}
 use Rattle.model.specs.Serve as serve
@@ -22,11 +23,11 @@ use Rattle.model.proofs.NumberLaws.{big_lt, bytes_drop}
 use Rattle.model.proofs.ListLaws.{index-hit, get_d_past, get_or-up_to, length-up_to}
 use Rattle.model.proofs.Meaning.{fits-entry, slots-count}
 use Rattle.model.proofs.StepLaws.{fits-establish, fits-renew}
-use Rattle.layout.specs.Shape.{in_use, slots_to, lines_to, held_right}
+use Rattle.layout.specs.Shape.{in_use, slots_to, lines_to}
 use Rattle.layout.specs.Held.{held_to}
 use Rattle.layout.proofs.PartLaws.{roster-read, slots_read, holdings-read, find-read}
 use Rattle.layout.proofs.AgeLaws.{index-ageless, held-full, held-fresh}
-use Rattle.layout.proofs.ReadLaws.{running-read, slot_read, read_held, formed-held}
+use Rattle.layout.proofs.ReadLaws.{running-read, slot_read, read_held}
 use Rattle.entries.specs.declared.Sender.{Sender}
 use Rattle.entries.specs.declared.Entry.{Entry}
 use Rattle.record.specs.declared.State.TheVariants.{Pending}
@@ -36,19 +37,22 @@ use Rattle.wire.specs.declared.LlqNumber.{LlqNumber}
 use Rattle.wire.specs.declared.LlqOption.{LlqOption}
 use Rattle.wire.specs.Records.{option_of}
 use Rattle.table.specs.Written.{WellFormed, Written}
-use Rattle.table.specs.Stored.{stored_as}
-use Rattle.table.proofs.WriteLaws.{unwritten, entry-written, establish-bytes, renew-bytes}
+use Rattle.table.specs.Stored.{entry_bytes, stored_as}
+use Rattle.table.proofs.WriteLaws.{unwritten, slot-written, establish-bytes, renew-bytes}
+use Rattle.table.proofs.EntryLaws.{pending-bytes}
 use Rattle.options.specs.declared.Outcome.TheVariants as out
 use Rattle.options.specs.declared.ServedOption.{ServedOption}
 use Rattle.options.specs.Outcomes.{served_outcome, served_with, ServedAs}
 
+-- an address of two halves fits its field
+pub address-fits : (high low : ℕ) → high < 2 ^ 64 → low < 2 ^ 64 → address_of high low < 256 ^ 16
+address-fits high low h l =
+    let a : high * 2 ^ 64 + low < suc high * 2 ^ 64 = omega arith in
+    lt_of_lt_of_le a (mul-le-mul_right (2 ^ 64) h)
+
 -- the same by equal steps
 pub served-by : {p q : serve.Served} {b : List ℕ} {x : ServedOption} → p ≡ q → ServedAs q b x → ServedAs p b x
 served-by {b = b} {x = x} e = subst (λ (z : serve.Served). ServedAs z b x) (sym e)
-
-only-free : (x : table.Slot) → is_free x ≡ true → x ≡ free
-only-free free h = refl
-only-free (held e) h = absurd (true≢false (sym h))
 
 module _ (b : List ℕ) (bytes : Bytes b) (formed : WellFormed b) (n : ℕ) (size : length b ≡ size_of (layout_of (length b)) n) where
   abbrev lay : Layout
@@ -63,15 +67,6 @@ module _ (b : List ℕ) (bytes : Bytes b) (formed : WellFormed b) (n : ℕ) (siz
 
   bytes-slots : Bytes slots
   bytes-slots = bytes_drop (base lay) b bytes
-
-  -- WHAT THE LINES SAY OF HELD is right, as the code is lent them
-  pub held-right : {f : LineForm} {x y : List ℕ} → f ≡ lay.lines → x ≡ drop (lines_at lay) b → y ≡ slots → held_right f x (held_of (slots_to y n)) (listed f x 16) ≡ true
-  held-right {f = f} {x = x} e ex ey =
-      let k : slots_in (length b) ≡ n = omega arith in
-      let own = subst (λ (m : ℕ). held_right lay.lines (drop (lines_at lay) b) (held_of (slots_to slots m)) (listed lay.lines (drop (lines_at lay) b) 16) ≡ true) k (formed-held b bytes formed) in
-      subst (λ (z : List ℕ). held_right f x (held_of (slots_to z n)) (listed f x 16) ≡ true) (sym ey)
-      (subst (λ (z : List ℕ). held_right f z (held_of (slots_to slots n)) (listed f z 16) ≡ true) (sym ex)
-      (subst (λ (g : LineForm). held_right g (drop (lines_at lay) b) (held_of (slots_to slots n)) (listed g (drop (lines_at lay) b) 16) ≡ true) (sym e) own))
 
   -- WHAT WAS FOUND
   module _ (p : Holding → Bool) {i : ℕ} (e : i ≡ index_of (has (big_endian b (running_at lay) 4) p) (slots_to slots n)) where
@@ -122,14 +117,6 @@ module _ (b : List ℕ) (bytes : Bytes b) (formed : WellFormed b) (n : ℕ) (siz
       told : (x : ServedOption) → x ≡ served_with o (out.Challenge number lease) → served_outcome x ≡ grants.outcome
       told x e = ap served_outcome e ∙ rw (number_is, ls)
 
-      -- the slot found is free
-      pub granted-free : i < n → read_slot slots (320 * i) ≡ free
-      granted-free l =
-          let f : ℕ → table.Slot = λ j. read_slot slots (320 * j) in
-          let k : index_of is_free (slots_to slots n) < length (slots_to slots n) = rw (length-up_to n f, ← is) l in
-          let t : is_free (get_or (slots_to slots n) i free) ≡ true = rw (← is) at (index-hit is_free (slots_to slots n) free k) in
-          only-free (read_slot slots (320 * i)) (ap is_free (sym (get_or-up_to n f i free l)) ∙ t)
-
       pub grant-none : n ≤ i → (x : ServedOption) → x ≡ served_with o (out.Challenge number lease) → ServedAs grants b x
       grant-none l x e =
           let stays : set (read_table b).slots (index_of is_free (read_table b).slots) (held new) ≡ (read_table b).slots =
@@ -158,13 +145,15 @@ module _ (b : List ℕ) (bytes : Bytes b) (formed : WellFormed b) (n : ℕ) (siz
         new_is : stored_as false made q.name ≡ new
         new_is = rw (number_is, ls, ss ∙ sym (running-read b))
 
-        pub grant-written : (y : List ℕ) → Written y (with_slot (read_table b) i (held (stored_as false made q.name))) → (x : ServedOption)
-            → x ≡ served_with o (out.Challenge number lease) → ServedAs grants y x
-        grant-written y w x e =
+        pub grant-written : i < n → FitsEntry (stored_as false made q.name) → (y : List ℕ) → y ≡ splice (slot_at lay i) 320 (entry_bytes made q.name) b
+            → (x : ServedOption) → x ≡ served_with o (out.Challenge number lease) → ServedAs grants y x
+        grant-written l f y w x e =
+            let v : y ≡ splice (slot_at lay i) 320 (slot_bytes (held new)) b =
+            w ∙ ap (λ (z : List ℕ). splice (slot_at lay i) 320 z b) (pending-bytes made q.name refl ∙ ap (λ (z : table.Entry). slot_bytes (held z)) new_is) in
             record {
               table =
                   subst (λ (k : ℕ). Written y (with_slot (read_table b) k (held new))) free-is
-                  (subst (λ (z : table.Entry). Written y (with_slot (read_table b) i (held z))) new_is w);
+                  (slot-written b bytes formed i (held new) (inside l) (subst FitsEntry new_is f) y v);
               outcome = told x e;
             }
 
@@ -184,17 +173,14 @@ module _ (b : List ℕ) (bytes : Bytes b) (formed : WellFormed b) (n : ℕ) (siz
           served-by (ap (on_setup (sender_of s) r q (option_of o) (read_table b)) (found-slot asked asked-at l))
           (record { table = unwritten b formed; outcome = ap served_outcome g ∙ rw (k, rs, h, running-read b) })
 
-      -- the lines and whether the address is full, as the code has counted
-      abbrev roster_now : List table.Line
-      roster_now = lines_to (line_size lay.lines) (drop (lines_at lay) b) (listed lay.lines (drop (lines_at lay) b) 16)
-
+      -- full, as the code has counted
       abbrev full_now : Bool
-      full_now = full n roster_now (count (held_to 0 slots n)) (sender_of s).address
+      full_now = full n (lines_to (drop (lines_at lay) b) (listed (drop (lines_at lay) b) 16)) (count (held_to 0 slots n)) (sender_of s).address
 
       full_is : full n (read_table b).roster (count (holdings (read_table b))) (sender_of s).address ≡ full_now
       full_is =
           rw (roster-read b, holdings-read b n size)
-          (held-full (big_endian b (running_at lay) 4) slots n n roster_now (sender_of s).address)
+          (held-full (big_endian b (running_at lay) 4) slots n n (lines_to (drop (lines_at lay) b) (listed (drop (lines_at lay) b) 16)) (sender_of s).address)
 
       lost : n ≤ i → serve_setup (sender_of s) r q (option_of o) (read_table b)
           ≡ cond full_now (record { table = read_table b; outcome = serve.retry_later (option_of o) }) grants
@@ -236,7 +222,7 @@ module _ (b : List ℕ) (bytes : Bytes b) (formed : WellFormed b) (n : ℕ) (siz
           served-by (ap (on_response (option_of o) (read_table b) (find_entry p (read_table b))) (found-slot p answered-at l))
           (record {
             table = subst (λ (j : ℕ). Written y (with_slot (read_table b) j (held (establish d)))) (found-index p answered-at)
-                (entry-written b bytes formed i d (establish d) (inside l) (found-held p answered-at l) refl g' y v);
+                (slot-written b bytes formed i (held (establish d)) (inside l) g' y v);
             outcome = ap served_outcome g ∙ rw (k, rs, h, running-read b);
           })
 
@@ -280,17 +266,13 @@ module _ (b : List ℕ) (bytes : Bytes b) (formed : WellFormed b) (n : ℕ) (siz
         unfolding on_refresh
         on-renew z j = rw (ne_eqb o.lease 0 z)
 
-        -- the slot found has an entry
-        pub refreshed-held : read_slot slots (320 * i) ≡ held d
-        refreshed-held = found-held wanted wanted-at l
-
-        pub refresh-end : o.lease ≡ 0 → (y : List ℕ) → Written y (with_slot (read_table b) i ended) → (x : ServedOption)
+        pub refresh-end : o.lease ≡ 0 → (y : List ℕ) → y ≡ splice (slot_at lay i) 320 (slot_bytes ended) b → (x : ServedOption)
             → x ≡ served_with o (out.Ended e.number) → ServedAs (serve_refresh (sender_of s) q (option_of o) (read_table b)) y x
         unfolding entry_at read_entry
         refresh-end z y w x g =
             served-by (refreshed ∙ on-end z _)
             (record {
-              table = subst (λ (j : ℕ). Written y (with_slot (read_table b) j ended)) (found-index wanted wanted-at) w;
+              table = subst (λ (j : ℕ). Written y (with_slot (read_table b) j ended)) (found-index wanted wanted-at) (slot-written b bytes formed i ended (inside l) tt y w);
               outcome = ap served_outcome g ∙ rw h;
             })
 
@@ -306,7 +288,7 @@ module _ (b : List ℕ) (bytes : Bytes b) (formed : WellFormed b) (n : ℕ) (siz
             let v = w ∙ ap (λ (k : ℕ). splice k 8 (encode ((4, lease) ∷ (4, running) ∷ [])) b) at ∙ renew-bytes b bytes formed i (inside l) d (found-held p wanted-at l) running o.lease lease k in
             let fits : FitsEntry c = fits-renew running o.lease d (rw r (big_lt b (running_at lay) 4 bytes)) (fits-entry slots bytes-slots (320 * i)) in
             let w' : Written y (with_slot (read_table b) i (held (renew (read_table b).clock.running o.lease d))) =
-            subst (λ (j : ℕ). Written y (with_slot (read_table b) i (held (renew j o.lease d)))) rr (entry-written b bytes formed i d c (inside l) (found-held p wanted-at l) refl fits y v) in
+            subst (λ (j : ℕ). Written y (with_slot (read_table b) i (held (renew j o.lease d)))) rr (slot-written b bytes formed i (held c) (inside l) fits y v) in
             served-by (refreshed ∙ on-renew z _)
             (record {
               table = subst (λ (j : ℕ). Written y (with_slot (read_table b) j (held (renew (read_table b).clock.running o.lease d)))) (found-index wanted wanted-at) w';

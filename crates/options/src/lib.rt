@@ -118,7 +118,7 @@ fn grant(
     q: Question,
     o: LlqOption,
 ) -> ServedOption
-    requires { WellFormed t.old × LayoutFor l (length t.old) × (length t.old ≡ size_of (layout_of (length t.old)) l.n) × (q.start + q.len ≤ length d.now) × (q.len ≤ 255) × (l.n ≤ 64) }
+    requires { WellFormed t.old × LayoutFor l (length t.old) × (length t.old ≡ size_of (layout_of (length t.old)) l.n) × (q.start + q.len ≤ length d.now) × (q.len ≤ 255) }
     ensures { ServedAs (granted (sender_of s) r (question_of d.now q) (option_of o) (read_table t.old)) t.new result }
 {
     let n = l.n;
@@ -141,7 +141,7 @@ fn grant(
         qclass: q.qclass,
         len: q.len as u8,
     };
-    table::put_entry(t, l, j, e, d, q.start as usize);
+    table::put_entry(&mut t[a..], j, e, d, q.start as usize);
     served(o, Outcome::Challenge(number, lease))
 }
 
@@ -154,7 +154,7 @@ fn serve_setup(
     q: Question,
     o: LlqOption,
 ) -> ServedOption
-    requires { WellFormed t.old × LayoutFor l (length t.old) × (length t.old ≡ size_of (layout_of (length t.old)) l.n) × (q.start + q.len ≤ length d.now) × (q.len ≤ 255) × (l.n ≤ 64) }
+    requires { WellFormed t.old × LayoutFor l (length t.old) × (length t.old ≡ size_of (layout_of (length t.old)) l.n) × (q.start + q.len ≤ length d.now) × (q.len ≤ 255) }
     ensures { ServedAs (serve_setup (sender_of s) r (question_of d.now q) (option_of o) (read_table t.old)) t.new result }
 {
     let n = l.n;
@@ -170,8 +170,7 @@ fn serve_setup(
         }
         Found::Nothing => {
             let f = l.lines_at as usize;
-            let form = l.lines;
-            if entries::is_full(&t[f..], &t[a..], n, form, s.high, s.low) {
+            if entries::is_full(&t[f..], &t[a..], n, s.high, s.low) {
                 return served(o, Outcome::Full);
             }
             grant(t, l, s, r, d, q, o)
@@ -187,7 +186,7 @@ fn serve_response(
     q: Question,
     o: LlqOption,
 ) -> ServedOption
-    requires { WellFormed t.old × LayoutFor l (length t.old) × (length t.old ≡ size_of (layout_of (length t.old)) l.n) × (q.start + q.len ≤ length d.now) × (l.n ≤ 64) }
+    requires { WellFormed t.old × LayoutFor l (length t.old) × (length t.old ≡ size_of (layout_of (length t.old)) l.n) × (q.start + q.len ≤ length d.now) }
     ensures { ServedAs (serve_response (sender_of s) (question_of d.now q) (option_of o) (read_table t.old)) t.new result }
 {
     let asked = o.number;
@@ -212,7 +211,7 @@ fn serve_refresh(
     q: Question,
     o: LlqOption,
 ) -> ServedOption
-    requires { WellFormed t.old × LayoutFor l (length t.old) × (length t.old ≡ size_of (layout_of (length t.old)) l.n) × (q.start + q.len ≤ length d.now) × (l.n ≤ 64) }
+    requires { WellFormed t.old × LayoutFor l (length t.old) × (length t.old ≡ size_of (layout_of (length t.old)) l.n) × (q.start + q.len ≤ length d.now) }
     ensures { ServedAs (serve_refresh (sender_of s) (question_of d.now q) (option_of o) (read_table t.old)) t.new result }
 {
     let asked = o.number;
@@ -221,7 +220,7 @@ fn serve_refresh(
         Found::Slot(i, e) => {
             let number = e.number;
             if o.lease == 0 {
-                table::end_entry(t, l, i);
+                table::end_entry(&mut t[a..], i);
                 return served(o, Outcome::Ended(number));
             }
             let lease = granted_lease(o.lease);
@@ -243,7 +242,7 @@ pub fn serve_option(
     q: Question,
     o: LlqOption,
 ) -> ServedOption
-    requires { WellFormed t.old × LayoutFor l (length t.old) × (q.start + q.len ≤ length d.now) × (q.len ≤ 255) × (l.n ≤ 64) }
+    requires { WellFormed t.old × LayoutFor l (length t.old) × (q.start + q.len ≤ length d.now) × (q.len ≤ 255) }
     ensures { ServedAs (serve_option (sender_of s) r (question_of d.now q) (option_of o) (read_table t.old)) t.new result }
 {
     let kind = kind_of(o);

@@ -1,15 +1,14 @@
 -- Bytes judged as one number: zeros, a kind and zeros, and two fields side by side. Assumes nothing.
-use Prim.Native.Nat.{ℕ, ◌+◌, ◌-◌, ◌*◌, ◌^◌, ◌≤◌}
-use native.Mathlib.Nat.{add-zero}
+use Prim.Native.Nat.{ℕ, ◌+◌, ◌*◌, ◌^◌, ◌≤◌}
 use native.Mathlib.Omega.{arith}
-use mathlib.Core.Path.{◌≡◌, refl, sym, ap, ◌∙◌}
+use mathlib.Core.Path.{◌≡◌, refl, sym, ◌∙◌}
 use mathlib.Core.Bool.{◌&&◌, and_assoc}
 use mathlib.Core.List.{List}
 use lib.ListN.{length, get_or}
 use lib.Dec.{eqb, lit<}
 use Rattle.model.specs.Lists.{same}
 use Rattle.model.specs.Numbers.{big_endian, Bytes, part}
-use Rattle.model.specs.Table.{LineForm, plain, counted, line_size, unused_kind, read_entry}
+use Rattle.model.specs.Table.{read_entry}
 use Rattle.model.proofs.NumberLaws.{big-add, big_lt, big-one}
 use Rattle.layout.specs.Shape.{zeros_at, unused_shape}
 use Rattle.layout.specs.Held.{holding_at}
@@ -25,37 +24,20 @@ head-is s a k b h =
     rw (big-add s a 1 7, big-one s a, zero_number s (a + 1) 7 l)
     (sym (halves_are (256 ^ 7) (get_or s a 0) (big_endian s (a + 1) 7) k 0 (big_lt s (a + 1) 7 b) (lit< tt)))
 
--- a kind k, and zeros from the second byte on to eight bytes behind z: three numbers that lie over each other
-kind-and-zeros : (s : List ℕ) (a k z : ℕ) → Bytes s → 8 ≤ z → z ≤ 16 → a + z + 8 ≤ length s
-    → eqb (get_or s a 0) k && zeros_at s (a + 1) (z + 7) ≡ eqb (big_endian s a 8) (k * 256 ^ 7) && (eqb (big_endian s (a + 8) 8) 0 && eqb (big_endian s (a + z) 8) 0)
-kind-and-zeros s a k z b low high h =
-    let e : a + 1 + 7 ≡ a + 8 = omega arith in
-    let f : a + 8 + (z - 8) ≡ a + z = omega arith in
-    let m : a + 8 + 8 ≤ length s = omega arith in
-    let n : a + z + 8 ≤ length s = omega arith in
-    let p = zero-both s (a + 1) (z + 7) 7 z (omega arith) (omega arith) in
-    let q = cover (zero_bytes s) _ (zero-both s) (a + 8) z 8 8 (omega arith) (omega arith) (omega arith) (omega arith) in
-    rw (← p, e, ← q, f, zero_number s (a + 8) 8 m, zero_number s (a + z) 8 n)
-    (sym (and_assoc (eqb (get_or s a 0) k) (zeros_at s (a + 1) 7) (eqb (big_endian s (a + 8) 8) 0 && eqb (big_endian s (a + z) 8) 0))
-    ∙ rw (head-is s a k b (omega arith), add-zero (k * 256 ^ 7)))
-
 -- an unused line as three numbers that lie over each other
-pub unused-is : (f : LineForm) (s : List ℕ) (a : ℕ) → Bytes s → a + line_size f ≤ length s
-    → unused_shape f s a ≡ eqb (big_endian s a 8) (unused_kind f * 256 ^ 7) && (eqb (big_endian s (a + 8) 8) 0 && eqb (big_endian s (a + line_size f - 8) 8) 0)
+pub unused-is : (s : List ℕ) (a : ℕ) → Bytes s → a + 19 ≤ length s
+    → unused_shape s a ≡ eqb (big_endian s a 8) (2 * 256 ^ 7) && (eqb (big_endian s (a + 8) 8) 0 && eqb (big_endian s (a + 11) 8) 0)
 unfolding unused_shape
-unused-is f s a b h = go f h
-  where
-    go : (f : LineForm) → a + line_size f ≤ length s
-        → eqb (get_or s a 0) (unused_kind f) && zeros_at s (a + 1) (line_size f - 1)
-        ≡ eqb (big_endian s a 8) (unused_kind f * 256 ^ 7) && (eqb (big_endian s (a + 8) 8) 0 && eqb (big_endian s (a + line_size f - 8) 8) 0)
-    go plain h =
-        let e : a + 11 ≡ a + 19 - 8 = omega arith in
-        kind-and-zeros s a 2 11 b (omega arith) (omega arith) (omega arith)
-        ∙ ap (λ (x : ℕ). eqb (big_endian s a 8) (2 * 256 ^ 7) && (eqb (big_endian s (a + 8) 8) 0 && eqb (big_endian s x 8) 0)) e
-    go counted h =
-        let e : a + 12 ≡ a + 20 - 8 = omega arith in
-        kind-and-zeros s a 13 12 b (omega arith) (omega arith) (omega arith)
-        ∙ ap (λ (x : ℕ). eqb (big_endian s a 8) (13 * 256 ^ 7) && (eqb (big_endian s (a + 8) 8) 0 && eqb (big_endian s x 8) 0)) e
+unused-is s a b h =
+    let e : a + 1 + 7 ≡ a + 8 = omega arith in
+    let f : a + 8 + 3 ≡ a + 11 = omega arith in
+    let m : a + 8 + 8 ≤ length s = omega arith in
+    let n : a + 11 + 8 ≤ length s = omega arith in
+    let p = zero-both s (a + 1) 18 7 11 refl (omega arith) in
+    let q = cover (zero_bytes s) _ (zero-both s) (a + 8) 11 8 8 (omega arith) (omega arith) (omega arith) (omega arith) in
+    rw (← p, e, ← q, f, zero_number s (a + 8) 8 m, zero_number s (a + 11) 8 n)
+    (sym (and_assoc (eqb (get_or s a 0) 2) (zeros_at s (a + 1) 7) (eqb (big_endian s (a + 8) 8) 0 && eqb (big_endian s (a + 11) 8) 0))
+    ∙ rw (head-is s a 2 b (omega arith)))
 
 -- two numbers of four bytes are the same exactly if both halves are
 fields-are : (s : List ℕ) (a c : ℕ) → Bytes s

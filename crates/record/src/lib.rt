@@ -3,20 +3,19 @@
 ghost use Rattle.std.specs.Prelude.{◌≡◌, ◌&&◌, ◌∷◌, [], ◌+◌, ◌*◌, ◌^◌, ◌≤◌, ◌<◌, length, get_or, eqb};
 ghost use Rattle.model.specs.Numbers.{big_endian, bytes_of, splice, encode};
 ghost use Rattle.model.specs.Clock.{cycle_of};
-ghost use Rattle.model.specs.Table.{line_size, read_line, place_width, place_bytes, running_at, layout_of, read_table};
+ghost use Rattle.model.specs.Table.{read_line, place_width, place_bytes, running_at, layout_of, read_table};
 ghost use Rattle.model.specs.Rules.{numbered, held_by};
 ghost use Rattle.model.specs.Sound.{valid_line, valid_entry};
 ghost use Rattle.layout.specs.Shape.{in_use, slot_shape, unused_shape};
 ghost use Rattle.layout.specs.Held.{holding_at};
 ghost use Rattle.layout.specs.Weeks.{weeks_of};
-ghost use Rattle.layout.specs.Forms.{form_of};
 ghost use Rattle.layout.specs.Places.{layout_in, LayoutFor};
 ghost use Rattle.clock.specs.Clock.{clock_of};
 ghost use Rattle.record.specs.Asked.{same_asked};
 ghost use Rattle.record.specs.State.{state_of, kind_byte};
 
 use clock::Clock;
-use layout::{Layout, LineForm, Weeks};
+use layout::{Layout, Weeks};
 use wire::LlqNumber;
 
 // The last place: 4 bytes with weeks of ten bits, 8 with weeks of thirteen.
@@ -140,20 +139,21 @@ pub fn slot_shape(t: &[u8], a: usize) -> bool
     octets::zeros(t, a + from, layout::SLOT - from)
 }
 
-// An unused roster line: its 19 or 20 bytes as three numbers of 8 that lie over each other. The first is the kind and seven zeros, kind * 2^56.
-pub fn unused_shape(t: &[u8], a: usize, form: LineForm) -> bool
-    requires { a + line_size (form_of form) ≤ length t.now }
-    ensures { result ≡ unused_shape (form_of form) t.now a }
+// 2 * 2^56: the kind 2 and seven zeros.
+const UNUSED_HEAD: u64 = layout::UNUSED_KIND as u64 * 72057594037927936;
+
+// An unused roster line: its 19 bytes as three numbers of 8 that lie over each other.
+pub fn unused_shape(t: &[u8], a: usize) -> bool
+    requires { a + 19 ≤ length t.now }
+    ensures { result ≡ unused_shape t.now a }
 {
-    let head = layout::unused_kind(form) as u64 * 72057594037927936;
-    if octets::get64(t, a) != head {
+    if octets::get64(t, a) != UNUSED_HEAD {
         return false;
     }
     if octets::get64(t, a + 8) != 0 {
         return false;
     }
-    let z = a + layout::line_size(form);
-    octets::get64(t, z - 8) == 0
+    octets::get64(t, a + 11) == 0
 }
 
 // A line's rules: share ≤ limit, limit is 1 to 64.

@@ -1,47 +1,22 @@
-// Roster lines, one after the other: the rules of a roster, and what the lines say of an address. `lines` starts with the first of them: a table's part, or a roster by itself. A line has w bytes.
+// Roster lines, one after the other: the rules of a roster, and what the lines say of an address. `lines` starts with the first of them: a table's part, or a roster by itself.
 ghost use Rattle.std.specs.Prelude.{◌≡◌, not, ◌&&◌, ◌+◌, ◌*◌, ◌^◌, ◌≤◌, ◌<◌, length, get_or, eqb};
 ghost use Rattle.model.specs.Lists.{every, no_two};
-ghost use Rattle.model.specs.Table.{plain, line_size, listed_kind, read_line, listed};
+ghost use Rattle.model.specs.Table.{read_line, listed};
 ghost use Rattle.model.specs.Rules.{limit_of, share_of, shares};
 ghost use Rattle.model.specs.Sound.{valid_line, same_address, sound_roster};
-ghost use Rattle.layout.specs.Shape.{all, unused_from, lines_to};
-ghost use Rattle.layout.specs.Forms.{form_of};
-
-use layout::LineForm;
+ghost use Rattle.layout.specs.Shape.{listed_kind, all, unused_from, lines_to};
 
 // An address that is not listed has share 0 and this limit.
 pub const UNLISTED_LIMIT: u8 = 4;
 
-// How many of 16 lines are listed: those of a listed line's kind that stand first. It goes from place to place; the compiler puts it where it is called, and the soundness check stays one piece.
-pub fn listed_lines(lines: &[u8], form: LineForm) -> usize
-    requires { line_size (form_of form) * 16 ≤ length lines.now }
-    ensures { (result ≡ listed (form_of form) lines.now 16) × (result ≤ 16) }
+// How many of 16 lines are listed: those of kind 0x03 that stand first.
+pub fn listed_lines(lines: &[u8]) -> usize
+    requires { 304 ≤ length lines.now }
+    ensures { (result ≡ listed lines.now 16) × (result ≤ 16) }
 {
-    let w = layout::line_size(form);
-    let kind = layout::listed_kind(form);
-    let end = w * layout::LINES;
-    let mut i: usize = 0;
-    let mut a: usize = 0;
-    while a != end {
-        if lines[a] != kind {
-            return i;
-        }
-        a += w;
-        i += 1;
-    }
-    i
-}
-
-// The same line by line: the compiler unrolls it and keeps it apart, so that callers with much of their own in registers are not burdened with it.
-pub fn listed_apart(lines: &[u8], form: LineForm) -> usize
-    requires { line_size (form_of form) * 16 ≤ length lines.now }
-    ensures { (result ≡ listed (form_of form) lines.now 16) × (result ≤ 16) }
-{
-    let w = layout::line_size(form);
-    let kind = layout::listed_kind(form);
     let mut i: usize = 0;
     while i < layout::LINES {
-        if lines[w * i] != kind {
+        if lines[layout::LINE * i] != layout::LISTED_KIND {
             return i;
         }
         i += 1;
@@ -50,16 +25,15 @@ pub fn listed_apart(lines: &[u8], form: LineForm) -> usize
 }
 
 // Of 16 lines those from m on are unused.
-fn unused_lines(lines: &[u8], form: LineForm, m: usize) -> bool
-    requires { (m ≤ 16) × (line_size (form_of form) * 16 ≤ length lines.now) }
-    ensures { result ≡ unused_from (form_of form) lines.now m }
+pub fn unused_from(lines: &[u8], m: usize) -> bool
+    requires { (m ≤ 16) × (304 ≤ length lines.now) }
+    ensures { result ≡ unused_from lines.now m }
 {
-    let w = layout::line_size(form);
     let n = layout::LINES - m;
-    let a = w * m;
+    let a = layout::LINE * m;
     let mut i: usize = 0;
     while i < n {
-        if !record::unused_shape(lines, a + w * i, form) {
+        if !record::unused_shape(lines, a + layout::LINE * i) {
             return false;
         }
         i += 1;
@@ -67,25 +41,14 @@ fn unused_lines(lines: &[u8], form: LineForm, m: usize) -> bool
     true
 }
 
-// The same, called with each form by its name: the compiler makes a loop for each, with kind and width as numbers.
-pub fn unused_from(lines: &[u8], form: LineForm, m: usize) -> bool
-    requires { (m ≤ 16) × (line_size (form_of form) * 16 ≤ length lines.now) }
-    ensures { result ≡ unused_from (form_of form) lines.now m }
-{
-    match form {
-        LineForm::Plain => unused_lines(lines, LineForm::Plain, m),
-        LineForm::Counted => unused_lines(lines, LineForm::Counted, m),
-    }
-}
-
-// The first m records of a roster are of kind 0x03.
+// The first m records are of kind 0x03.
 pub fn kinds_listed(lines: &[u8], m: usize) -> bool
     requires { (m ≤ 16) × (19 * m ≤ length lines.now) }
-    ensures { result ≡ all (λ i. eqb (get_or lines.now (19 * i) 0) (listed_kind plain)) m }
+    ensures { result ≡ all (λ i. eqb (get_or lines.now (19 * i) 0) listed_kind) m }
 {
     let mut i: usize = 0;
     while i < m {
-        if lines[layout::LINE * i] != layout::PLAIN_LISTED_KIND {
+        if lines[layout::LINE * i] != layout::LISTED_KIND {
             return false;
         }
         i += 1;
@@ -94,13 +57,13 @@ pub fn kinds_listed(lines: &[u8], m: usize) -> bool
 }
 
 // Each line meets a line's rules.
-fn lines_valid(lines: &[u8], w: usize, m: usize) -> bool
-    requires { (m ≤ 16) × (w * m ≤ length lines.now) × (19 ≤ w) }
-    ensures { result ≡ every valid_line (lines_to w lines.now m) }
+fn lines_valid(lines: &[u8], m: usize) -> bool
+    requires { (m ≤ 16) × (19 * m ≤ length lines.now) }
+    ensures { result ≡ every valid_line (lines_to lines.now m) }
 {
     let mut i: usize = 0;
     while i < m {
-        if !record::valid_line(lines, w * i) {
+        if !record::valid_line(lines, layout::LINE * i) {
             return false;
         }
         i += 1;
@@ -109,16 +72,16 @@ fn lines_valid(lines: &[u8], w: usize, m: usize) -> bool
 }
 
 // No line before line i has its address.
-fn line_apart(lines: &[u8], w: usize, i: usize) -> bool
-    requires { (i < 16) × (w * i + w ≤ length lines.now) × (19 ≤ w) }
-    ensures { result ≡ every (λ l. not (same_address l (read_line lines.now (w * i)))) (lines_to w lines.now i) }
+fn line_apart(lines: &[u8], i: usize) -> bool
+    requires { (i < 16) × (19 * i + 19 ≤ length lines.now) }
+    ensures { result ≡ every (λ l. not (same_address l (read_line lines.now (19 * i)))) (lines_to lines.now i) }
 {
-    let a = w * i;
+    let a = layout::LINE * i;
     let hi = octets::get64(lines, a + layout::ADDRESS_AT);
     let lo = octets::get64(lines, a + layout::LOW_AT);
     let mut j: usize = 0;
     while j < i {
-        if record::has_address(lines, w * j + layout::ADDRESS_AT, hi, lo) {
+        if record::has_address(lines, layout::LINE * j + layout::ADDRESS_AT, hi, lo) {
             return false;
         }
         j += 1;
@@ -127,13 +90,13 @@ fn line_apart(lines: &[u8], w: usize, i: usize) -> bool
 }
 
 // Listed addresses differ.
-fn lines_apart(lines: &[u8], w: usize, m: usize) -> bool
-    requires { (m ≤ 16) × (w * m ≤ length lines.now) × (19 ≤ w) }
-    ensures { result ≡ no_two same_address (lines_to w lines.now m) }
+fn lines_apart(lines: &[u8], m: usize) -> bool
+    requires { (m ≤ 16) × (19 * m ≤ length lines.now) }
+    ensures { result ≡ no_two same_address (lines_to lines.now m) }
 {
     let mut i: usize = 0;
     while i < m {
-        if !line_apart(lines, w, i) {
+        if !line_apart(lines, i) {
             return false;
         }
         i += 1;
@@ -148,49 +111,49 @@ fn wide(x: u8) -> usize
 }
 
 // The sum of the shares.
-pub fn share_sum(lines: &[u8], w: usize, m: usize) -> usize
-    requires { (m ≤ 16) × (w * m ≤ length lines.now) × (19 ≤ w) }
-    ensures { result ≡ shares (lines_to w lines.now m) }
+pub fn share_sum(lines: &[u8], m: usize) -> usize
+    requires { (m ≤ 16) × (19 * m ≤ length lines.now) }
+    ensures { result ≡ shares (lines_to lines.now m) }
 {
     let mut s: usize = 0;
     let mut i: usize = 0;
     while i < m {
-        s += wide(lines[w * i + layout::SHARE_AT]);
+        s += wide(lines[layout::LINE * i + layout::SHARE_AT]);
         i += 1;
     }
     s
 }
 
 // Each line meets a line's rules, and listed addresses differ.
-pub fn lines_good(lines: &[u8], w: usize, m: usize) -> bool
-    requires { (m ≤ 16) × (w * m ≤ length lines.now) × (19 ≤ w) }
-    ensures { result ≡ (every valid_line (lines_to w lines.now m) && no_two same_address (lines_to w lines.now m)) }
+pub fn lines_good(lines: &[u8], m: usize) -> bool
+    requires { (m ≤ 16) × (19 * m ≤ length lines.now) }
+    ensures { result ≡ (every valid_line (lines_to lines.now m) && no_two same_address (lines_to lines.now m)) }
 {
-    if !lines_valid(lines, w, m) {
+    if !lines_valid(lines, m) {
         return false;
     }
-    lines_apart(lines, w, m)
+    lines_apart(lines, m)
 }
 
 // The roster rules of n slots.
-pub fn lines_sound(lines: &[u8], w: usize, m: usize, n: usize) -> bool
-    requires { (m ≤ 16) × (w * m ≤ length lines.now) × (19 ≤ w) }
-    ensures { result ≡ sound_roster n (lines_to w lines.now m) }
+pub fn lines_sound(lines: &[u8], m: usize, n: usize) -> bool
+    requires { (m ≤ 16) × (19 * m ≤ length lines.now) }
+    ensures { result ≡ sound_roster n (lines_to lines.now m) }
 {
-    if !lines_good(lines, w, m) {
+    if !lines_good(lines, m) {
         return false;
     }
-    share_sum(lines, w, m) <= n
+    share_sum(lines, m) <= n
 }
 
 // The address's limit by the first m lines.
-pub fn limit_of(lines: &[u8], w: usize, m: usize, hi: u64, lo: u64) -> usize
-    requires { (w * m ≤ length lines.now) × (19 ≤ w) }
-    ensures { result ≡ limit_of (lines_to w lines.now m) (hi * 2 ^ 64 + lo) }
+pub fn limit_of(lines: &[u8], m: usize, hi: u64, lo: u64) -> usize
+    requires { 19 * m ≤ length lines.now }
+    ensures { result ≡ limit_of (lines_to lines.now m) (hi * 2 ^ 64 + lo) }
 {
     let mut i: usize = 0;
     while i < m {
-        let a = w * i;
+        let a = layout::LINE * i;
         if record::has_address(lines, a + layout::ADDRESS_AT, hi, lo) {
             return wide(lines[a + layout::LIMIT_AT]);
         }
@@ -200,13 +163,13 @@ pub fn limit_of(lines: &[u8], w: usize, m: usize, hi: u64, lo: u64) -> usize
 }
 
 // The address's share by the first m lines.
-pub fn share_of(lines: &[u8], w: usize, m: usize, hi: u64, lo: u64) -> usize
-    requires { (w * m ≤ length lines.now) × (19 ≤ w) }
-    ensures { result ≡ share_of (lines_to w lines.now m) (hi * 2 ^ 64 + lo) }
+pub fn share_of(lines: &[u8], m: usize, hi: u64, lo: u64) -> usize
+    requires { 19 * m ≤ length lines.now }
+    ensures { result ≡ share_of (lines_to lines.now m) (hi * 2 ^ 64 + lo) }
 {
     let mut i: usize = 0;
     while i < m {
-        let a = w * i;
+        let a = layout::LINE * i;
         if record::has_address(lines, a + layout::ADDRESS_AT, hi, lo) {
             return wide(lines[a + layout::SHARE_AT]);
         }

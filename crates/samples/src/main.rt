@@ -6,11 +6,9 @@
 //   T tick
 //   S serve   room: the reply buffer's length; body: the datagram
 //   C compare room: the stored name's length; body: its bytes and then the sent name's
-//   H, P move the table to lines with held, or without; room: the target's length
 //   D print the table
-// The list is cut where the table's length changes, before a C, an H, a P and a D. Each piece is a script, which `script::run` carries out on
-// the lent part of the table; the lines are printed from its answers. A call's line ends in a sum of the table's bytes. A move goes to a buffer
-// filled anew; where it is answered, what it left is the table from there on.
+// The list is cut where the table's length changes, before a C and before a D. Each piece is a script, which `script::run` carries out on
+// the lent part of the table; the lines are printed from its answers. A call's line ends in a sum of the table's bytes.
 ghost use Rattle.std.specs.Prelude.{◌≤◌, ◌<◌, length};
 ghost use Rattle.script.specs.Spelled.{next_at};
 
@@ -161,18 +159,11 @@ fn lent(s: &[u8], at: usize, before: u16) -> u16
     before
 }
 
-// The record is a move.
-fn moves(s: &[u8], at: usize) -> bool
-    requires { next_at s.now at ≤ length s.now }
-{
-    s[at] == b'H' || s[at] == b'P'
-}
-
-// A piece ends before names to compare, before a move, before a table to print, and before a making of another length.
+// A piece ends before names to compare, before a table to print, and before a making of another length.
 fn cuts(s: &[u8], at: usize, n: u16) -> bool
     requires { next_at s.now at ≤ length s.now }
 {
-    s[at] == b'C' || s[at] == b'D' || moves(s, at) || lent(s, at, n) != n
+    s[at] == b'C' || s[at] == b'D' || lent(s, at, n) != n
 }
 
 // Where the piece ends whose first record ends at index from.
@@ -209,93 +200,13 @@ fn run_piece(s: &[u8], at: usize, n: u16, table: &mut [u8], answers: &mut [u8]) 
     end
 }
 
-// Every byte becomes x.
-fn fill(s: &mut [u8], x: u8) {
-    let n = s.len();
-    let mut i: usize = 0;
-    while i < n {
-        s[i] = x;
-        i += 1;
-    }
-}
-
-// A move's line.
-fn say_moved(word: &[u8], number: u32, target: &[u8]) {
-    say(word);
-    say_number(number as u64);
-    say_number(script::sum(target) as u64);
-    say(b"\n");
-}
-
-// To lines with held, or without. Whether it was answered.
-fn move_to(kind: u8, source: &[u8], target: &mut [u8]) -> bool {
-    if kind == b'H' {
-        let number = llq::llq_to_held(source, target);
-        say_moved(b"held", number, target);
-        return number == 0;
-    }
-    let number = llq::llq_from_held(source, target);
-    say_moved(b"plain", number, target);
-    number == 0
-}
-
-// The move of the record at index at, to a target of as many bytes as its room says. What it left becomes the table; the length that is lent then.
-fn run_move(s: &[u8], at: usize, n: u16, table: &mut [u8], target: &mut [u8]) -> u16
-    requires { next_at s.now at ≤ length s.now }
-{
-    fill(target, 0xDD);
-    let m = script::room(s, at);
-    let k = io::count(n as isize, table);
-    let j = io::count(m as isize, target);
-    if !move_to(s[at], &table[..k], &mut target[..j]) {
-        return n;
-    }
-    if j > table.len() {
-        return n;
-    }
-    octets::copy(table, 0, target, 0, j);
-    m
-}
-
-// Where the list goes on, and the length that is lent there.
-#[derive(Drop)]
-struct Next {
-    at: usize,
-    n: u16,
-}
-
-// The move, or the piece, whose first record is at index at.
-fn step(
-    s: &[u8],
-    at: usize,
-    before: u16,
-    table: &mut [u8],
-    target: &mut [u8],
-    answers: &mut [u8],
-) -> Next
-    requires { next_at s.now at ≤ length s.now }
-    ensures { (at < result.at) × (result.at ≤ length s.now) }
-{
-    let n = lent(s, at, before);
-    if moves(s, at) {
-        let m = run_move(s, at, n, table, target);
-        return Next {
-            at: script::next(s, at),
-            n: m,
-        };
-    }
-    let end = run_piece(s, at, n, table, answers);
-    Next { at: end, n }
-}
-
-// Step by step, to the first record that is not whole.
-fn run_steps(s: &[u8], table: &mut [u8], target: &mut [u8], answers: &mut [u8]) {
+// Piece by piece, to the first record that is not whole.
+fn run_pieces(s: &[u8], table: &mut [u8], answers: &mut [u8]) {
     let mut at: usize = 0;
     let mut n: u16 = 0;
     while script::whole(s, at) {
-        let r = step(s, at, n, table, target, answers);
-        at = r.at;
-        n = r.n;
+        n = lent(s, at, n);
+        at = run_piece(s, at, n, table, answers);
     }
 }
 
@@ -303,7 +214,6 @@ fn main() {
     let mut list = [0u8; LIST];
     let n = io::read_full(0, &mut list);
     let mut table = [0xEEu8; TABLE];
-    let mut target = [0u8; TABLE];
     let mut answers = io::large_buffer();
-    run_steps(&list[..n], &mut table, &mut target, &mut answers);
+    run_pieces(&list[..n], &mut table, &mut answers);
 }

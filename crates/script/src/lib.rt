@@ -112,7 +112,7 @@ fn more(c: u64, b: u8) -> u64
     (c * 257 + b as u64) % 4294967291
 }
 
-pub fn sum(t: &[u8]) -> u32
+fn sum(t: &[u8]) -> u32
     ensures { result ≡ sum_of t.now }
 {
     let mut c: u64 = 0;

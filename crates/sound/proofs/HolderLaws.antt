@@ -2,18 +2,18 @@
 use Prim.Native.Nat.{ℕ, ◌+◌, ◌*◌, ◌<◌}
 use native.Mathlib.Omega.{arith}
 use mathlib.Core.Path.{◌≡◌, refl, ◌∙◌}
-use mathlib.Core.Bool.{Bool, true, false, not, cond, ◌&&◌, and_assoc, and-false}
+use mathlib.Core.Bool.{Bool, true, false, not, cond, ◌&&◌, and_assoc}
 use mathlib.Core.List.{List}
 use lib.ListN.{length, get_or}
 use lib.Dec.{eqb, leb}
 use borrow.Author.Tests.{eqb-true, le-leb, lt-leb}
 use Rattle.model.specs.Lists.{count, any, every, no_two}
-use Rattle.model.specs.Table.{Line, LineForm, line_size, held_of, listed}
+use Rattle.model.specs.Table.{Line, listed}
 use Rattle.model.specs.Rules.{Holding, numbered, held_by, limit_of, reserve}
 use Rattle.model.specs.Sound.{valid_line, valid_entry, same_number, same_question, sound_roster, sound_holdings}
 use Rattle.model.specs.Calls.{good_roster, roster_count}
 use Rattle.model.proofs.ListLaws.{never, and_left, and_right, swap, every-not}
-use Rattle.layout.specs.Shape.{all, in_use, slot_shape, slots_to, lines_to, unused_from, held_right, parts_shape}
+use Rattle.layout.specs.Shape.{in_use, lines_to, parts_shape}
 use Rattle.layout.specs.Held.{holding_at, held_to, ok_at, within, rules_of}
 use Rattle.sound.specs.Holders.{holder_sound, holders_sound, entries_sound}
 use Rattle.layout.proofs.HeldLaws.{two-next, two-yes, two-no, grows-no}
@@ -73,50 +73,32 @@ holdings-are r b ls n =
 
 -- RECORDS BY THEMSELVES, before the rules of several
 
-module _ (f : LineForm) (r : ℕ) (lines slots : List ℕ) (n : ℕ) where
-  abbrev unused : Bool
-  unused = unused_from f lines (listed f lines 16)
+module _ (r : ℕ) (lines slots : List ℕ) (n : ℕ) where
+  abbrev records_good : Bool
+  records_good = parts_shape lines slots n && every valid_entry (held_to r slots n)
 
-  abbrev shaped : Bool
-  shaped = all (λ i. slot_shape slots (320 * i)) n
+  abbrev listed_lines : List Line
+  listed_lines = lines_to lines (listed lines 16)
 
-  abbrev valid : Bool
-  valid = every valid_entry (held_to r slots n)
-
-  abbrev right : Bool
-  right = held_right f lines (held_of (slots_to slots n)) (listed f lines 16)
-
-  abbrev ls : List Line
-  ls = lines_to (line_size f) lines (listed f lines 16)
-
-  -- all that is tested of lines and slots
-  abbrev Whole : Bool → Type 0
-  Whole v = parts_shape f lines slots n && rules_of f r lines slots n ≡ v
-
-  -- where all are good and held is right, the rules that are judged after it are left
-  pub all-good : unused && (shaped && valid) ≡ true → right ≡ true → Whole (sound_roster n ls && entries_sound slots ls n)
-  unfolding parts_shape
-  all-good z h =
-      let s : shaped && valid ≡ true = and_right unused (shaped && valid) z in
-      rw (and_left unused (shaped && valid) z, and_left shaped valid s, h, holdings-are r slots ls n, and_right shaped valid s)
+  -- where all are good, the rules that are judged after it are left
+  pub all-good : records_good ≡ true → parts_shape lines slots n && rules_of r lines slots n ≡ sound_roster n listed_lines && entries_sound slots listed_lines n
+  all-good z =
+      rw (
+        and_left (parts_shape lines slots n) (every valid_entry (held_to r slots n)) z,
+        holdings-are r slots listed_lines n,
+        and_right (parts_shape lines slots n) (every valid_entry (held_to r slots n)) z,
+      )
 
   -- where one is not good, none of them matters
-  pub not_good : unused && (shaped && valid) ≡ false → Whole false
-  unfolding parts_shape
-  not_good z = rw (holdings-are r slots ls n) (go unused shaped valid right (sound_roster n ls) (entries_sound slots ls n) z)
+  pub not_good : records_good ≡ false → parts_shape lines slots n && rules_of r lines slots n ≡ false
+  not_good z =
+      rw (holdings-are r slots listed_lines n) (go (parts_shape lines slots n) (sound_roster n listed_lines) (every valid_entry (held_to r slots n)) (entries_sound slots listed_lines n) z)
     where
-      go : (u s e h q x : Bool) → u && (s && e) ≡ false → ((u && s) && h) && (q && (e && x)) ≡ false
-      go false s e h q x z = refl
-      go true false e h q x z = refl
-      go true true false false q x z = refl
-      go true true false true false x z = refl
-      go true true false true true x z = refl
-      go true true true h q x z = never refl z
-
-  -- nor where held is not right
-  pub not_right : right ≡ false → Whole false
-  unfolding parts_shape
-  not_right h = rw (h, and-false)
+      go : (s q e x : Bool) → s && e ≡ false → s && (q && (e && x)) ≡ false
+      go false q e x z = refl
+      go true false e x z = refl
+      go true true false x z = refl
+      go true true true x z = never refl z
 
 -- a roster of more than 16 lines
 pub too_long : (n : ℕ) (r : List ℕ) → 304 < length r → good_roster n r ≡ false

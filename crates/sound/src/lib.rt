@@ -5,14 +5,13 @@ ghost use Rattle.model.specs.Rules.{numbered, held_by, limit_of, share_of};
 ghost use Rattle.model.specs.Rules.{shares as shares_of};
 ghost use Rattle.model.specs.Sound.{valid_line, valid_entry, same_number, same_address, sound_roster, sound_bytes};
 ghost use Rattle.model.specs.Calls.{good_roster};
-ghost use Rattle.model.specs.Table.{line_size, held_of};
-ghost use Rattle.layout.specs.Shape.{all, slot_shape, slots_to, lines_to, unused_from, held_right, parts_shape};
-ghost use Rattle.layout.specs.Forms.{form_of};
+ghost use Rattle.model.specs.Table.{listed};
+ghost use Rattle.layout.specs.Shape.{all, slot_shape, lines_to, parts_shape};
 ghost use Rattle.layout.specs.Held.{holding_at, held_to, ok_at, rules_of};
 ghost use Rattle.layout.specs.Places.{LayoutFor};
 ghost use Rattle.sound.specs.Holders.{holder_sound, holders_sound, beyond_share, entry_beyond_share, entries_sound};
 
-use layout::{Layout, LineForm};
+use layout::Layout;
 
 // No slot: behind the last that a table can have.
 const NONE: u8 = layout::SLOTS_MOST as u8;
@@ -50,33 +49,26 @@ fn slots_good(slots: &[u8], n: usize, running: u32) -> bool
     true
 }
 
-// The lines from m on are unused, kinds and zeros of the slots are as the layout has them, and each entry meets an entry's rules.
-fn records_good(
-    lines: &[u8],
-    slots: &[u8],
-    n: usize,
-    form: LineForm,
-    m: usize,
-    running: u32,
-) -> bool
-    requires { (n ≤ 64) × (m ≤ 16) × (line_size (form_of form) * 16 ≤ length lines.now) × (320 * n ≤ length slots.now) }
-    ensures { result ≡ (unused_from (form_of form) lines.now m && (all (λ i. slot_shape slots.now (320 * i)) n && every valid_entry (held_to running slots.now n))) }
+// Kinds, order and zeros of lines and slots are as the layout has them, and each entry meets an entry's rules; m lines are listed.
+fn records_good(lines: &[u8], slots: &[u8], n: usize, m: usize, running: u32) -> bool
+    requires { (n ≤ 64) × (m ≤ 16) × (304 ≤ length lines.now) × (320 * n ≤ length slots.now) × (m ≡ listed lines.now 16) }
+    ensures { result ≡ (parts_shape lines.now slots.now n && every valid_entry (held_to running slots.now n)) }
 {
-    if !roster::unused_from(lines, form, m) {
+    if !roster::unused_from(lines, m) {
         return false;
     }
     slots_good(slots, n, running)
 }
 
 // The address may hold one entry more than k.
-fn may_add(lines: &[u8], w: usize, m: usize, k: usize, hi: u64, lo: u64) -> bool
-    requires { (m ≤ 16) × (w * m ≤ length lines.now) × (k ≤ 64) × (every valid_line (lines_to w lines.now m) ≡ true) × (19 ≤ w) }
-    ensures { result ≡ leb (k + 1) (limit_of (lines_to w lines.now m) (hi * 2 ^ 64 + lo)) }
+fn may_add(lines: &[u8], m: usize, k: usize, hi: u64, lo: u64) -> bool
+    requires { (m ≤ 16) × (19 * m ≤ length lines.now) × (k ≤ 64) × (every valid_line (lines_to lines.now m) ≡ true) }
+    ensures { result ≡ leb (k + 1) (limit_of (lines_to lines.now m) (hi * 2 ^ 64 + lo)) }
 {
     if k == 0 {
         return true;
     }
-    k < roster::limit_of(lines, w, m, hi, lo)
+    k < roster::limit_of(lines, m, hi, lo)
 }
 
 // No entry below slot i has the number of the one at c. Those from slot `from` on are looked at: of those below none has it.
@@ -99,17 +91,9 @@ fn number_apart(slots: &[u8], from: usize, i: usize, c: usize) -> bool
 }
 
 // The entry at c, with those below slot i: none has its address and asks the same, and its address is within its limit. Those from slot `from` on are looked at: of those below none has its address.
-fn holder_sound(
-    lines: &[u8],
-    slots: &[u8],
-    from: usize,
-    i: usize,
-    c: usize,
-    w: usize,
-    m: usize,
-) -> bool
-    requires { (from ≤ i) × (i ≤ 64) × (m ≤ 16) × (w * m ≤ length lines.now) × (320 * i ≤ length slots.now) × (c + 320 ≤ length slots.now) × (every valid_line (lines_to w lines.now m) ≡ true) × (every (λ h. not (held_by (holding_at 0 slots.now c).address h)) (held_to 0 slots.now from) ≡ true) × (19 ≤ w) }
-    ensures { result ≡ holder_sound slots.now (lines_to w lines.now m) i (holding_at 0 slots.now c) }
+fn holder_sound(lines: &[u8], slots: &[u8], from: usize, i: usize, c: usize, m: usize) -> bool
+    requires { (from ≤ i) × (i ≤ 64) × (m ≤ 16) × (19 * m ≤ length lines.now) × (320 * i ≤ length slots.now) × (c + 320 ≤ length slots.now) × (every valid_line (lines_to lines.now m) ≡ true) × (every (λ h. not (held_by (holding_at 0 slots.now c).address h)) (held_to 0 slots.now from) ≡ true) }
+    ensures { result ≡ holder_sound slots.now (lines_to lines.now m) i (holding_at 0 slots.now c) }
 {
     if from >= i {
         return true;
@@ -128,7 +112,7 @@ fn holder_sound(
         }
         j += 1;
     }
-    may_add(lines, w, m, k, hi, lo)
+    may_add(lines, m, k, hi, lo)
 }
 
 // The slot to look from: the first known, or slot i itself where none is.
@@ -165,9 +149,9 @@ fn numbers_apart(slots: &[u8], n: usize) -> bool
 }
 
 // No two entries have one address and question, and no address holds more than its limit. first[y] is likewise the first slot whose address ends in the byte y.
-fn holders_sound(lines: &[u8], slots: &[u8], n: usize, w: usize, m: usize) -> bool
-    requires { (n ≤ 64) × (m ≤ 16) × (w * m ≤ length lines.now) × (320 * n ≤ length slots.now) × (every valid_line (lines_to w lines.now m) ≡ true) × (19 ≤ w) }
-    ensures { result ≡ holders_sound slots.now (lines_to w lines.now m) n }
+fn holders_sound(lines: &[u8], slots: &[u8], n: usize, m: usize) -> bool
+    requires { (n ≤ 64) × (m ≤ 16) × (19 * m ≤ length lines.now) × (320 * n ≤ length slots.now) × (every valid_line (lines_to lines.now m) ≡ true) }
+    ensures { result ≡ holders_sound slots.now (lines_to lines.now m) n }
 {
     let mut first = [NONE; 256];
     let mut i: usize = 0;
@@ -177,7 +161,7 @@ fn holders_sound(lines: &[u8], slots: &[u8], n: usize, w: usize, m: usize) -> bo
             let y = slots[a + layout::ADDRESS_LAST] as usize;
             let p = earlier(first[y], i);
             first[y] = p as u8;
-            if !holder_sound(lines, slots, p, i, a, w, m) {
+            if !holder_sound(lines, slots, p, i, a, m) {
                 return false;
             }
         }
@@ -201,13 +185,13 @@ fn beyond_share(share: u8, limit: u8, k: usize) -> usize
 }
 
 // The same by the first m lines.
-fn address_beyond_share(lines: &[u8], w: usize, m: usize, k: usize, hi: u64, lo: u64) -> usize
-    requires { (k ≤ 64) × (w * m ≤ length lines.now) × (19 ≤ w) }
-    ensures { result ≡ beyond_share (share_of (lines_to w lines.now m) (hi * 2 ^ 64 + lo)) (limit_of (lines_to w lines.now m) (hi * 2 ^ 64 + lo)) k }
+fn address_beyond_share(lines: &[u8], m: usize, k: usize, hi: u64, lo: u64) -> usize
+    requires { (k ≤ 64) × (19 * m ≤ length lines.now) }
+    ensures { result ≡ beyond_share (share_of (lines_to lines.now m) (hi * 2 ^ 64 + lo)) (limit_of (lines_to lines.now m) (hi * 2 ^ 64 + lo)) k }
 {
     let mut i: usize = 0;
     while i < m {
-        let a = w * i;
+        let a = layout::LINE * i;
         if record::has_address(lines, a + layout::ADDRESS_AT, hi, lo) {
             return beyond_share(lines[a + layout::SHARE_AT], lines[a + layout::LIMIT_AT], k);
         }
@@ -217,9 +201,9 @@ fn address_beyond_share(lines: &[u8], w: usize, m: usize, k: usize, hi: u64, lo:
 }
 
 // The same of the entry of slot i, with those below it; 2 also where one of them has its number, or its address and question: number and holder are looked at in one walk.
-fn entry_beyond_share(lines: &[u8], slots: &[u8], i: usize, w: usize, m: usize) -> usize
-    requires { (i < 64) × (m ≤ 16) × (w * m ≤ length lines.now) × (320 * (i + 1) ≤ length slots.now) × (19 ≤ w) }
-    ensures { result ≡ entry_beyond_share slots.now (lines_to w lines.now m) i (holding_at 0 slots.now (320 * i)) }
+fn entry_beyond_share(lines: &[u8], slots: &[u8], i: usize, m: usize) -> usize
+    requires { (i < 64) × (m ≤ 16) × (19 * m ≤ length lines.now) × (320 * (i + 1) ≤ length slots.now) }
+    ensures { result ≡ entry_beyond_share slots.now (lines_to lines.now m) i (holding_at 0 slots.now (320 * i)) }
 {
     let c = layout::SLOT * i;
     let number = record::number_at(slots, c);
@@ -239,19 +223,19 @@ fn entry_beyond_share(lines: &[u8], slots: &[u8], i: usize, w: usize, m: usize) 
         }
         a += layout::SLOT;
     }
-    address_beyond_share(lines, w, m, k, hi, lo)
+    address_beyond_share(lines, m, k, hi, lo)
 }
 
 // A table of few slots: each entry is compared with all before it. Before the first entry the reserve is the sum of the shares; an entry takes from what its share reserves, or one slot beyond it.
-fn few_sound(lines: &[u8], slots: &[u8], n: usize, w: usize, m: usize, shares: usize) -> bool
-    requires { (n ≤ 64) × (m ≤ 16) × (w * m ≤ length lines.now) × (320 * n ≤ length slots.now) × (shares ≤ 64) × (shares ≡ shares_of (lines_to w lines.now m)) × (every valid_line (lines_to w lines.now m) ≡ true) × (no_two same_address (lines_to w lines.now m) ≡ true) × (19 ≤ w) }
-    ensures { result ≡ entries_sound slots.now (lines_to w lines.now m) n }
+fn few_sound(lines: &[u8], slots: &[u8], n: usize, m: usize, shares: usize) -> bool
+    requires { (n ≤ 64) × (m ≤ 16) × (19 * m ≤ length lines.now) × (320 * n ≤ length slots.now) × (shares ≤ 64) × (shares ≡ shares_of (lines_to lines.now m)) × (every valid_line (lines_to lines.now m) ≡ true) × (no_two same_address (lines_to lines.now m) ≡ true) }
+    ensures { result ≡ entries_sound slots.now (lines_to lines.now m) n }
 {
     let mut k = shares;
     let mut i: usize = 0;
     while i < n {
         if record::in_use(slots[layout::SLOT * i]) {
-            let x = entry_beyond_share(lines, slots, i, w, m);
+            let x = entry_beyond_share(lines, slots, i, m);
             if x > 1 {
                 return false;
             }
@@ -263,17 +247,17 @@ fn few_sound(lines: &[u8], slots: &[u8], n: usize, w: usize, m: usize, shares: u
 }
 
 // A table of many slots: pass by pass, with the tables of first slots.
-fn many_sound(lines: &[u8], slots: &[u8], n: usize, form: LineForm, m: usize) -> bool
-    requires { (n ≤ 64) × (m ≤ 16) × (line_size (form_of form) * m ≤ length lines.now) × (320 * n ≤ length slots.now) × (every valid_line (lines_to (line_size (form_of form)) lines.now m) ≡ true) × (held_right (form_of form) lines.now (held_of (slots_to slots.now n)) m ≡ true) }
-    ensures { result ≡ entries_sound slots.now (lines_to (line_size (form_of form)) lines.now m) n }
+fn many_sound(lines: &[u8], slots: &[u8], n: usize, m: usize) -> bool
+    requires { (n ≤ 64) × (m ≤ 16) × (19 * m ≤ length lines.now) × (320 * n ≤ length slots.now) × (every valid_line (lines_to lines.now m) ≡ true) }
+    ensures { result ≡ entries_sound slots.now (lines_to lines.now m) n }
 {
     if !numbers_apart(slots, n) {
         return false;
     }
-    if !holders_sound(lines, slots, n, layout::line_size(form), m) {
+    if !holders_sound(lines, slots, n, m) {
         return false;
     }
-    let kept = holdings::reserve_of(lines, slots, n, form, m);
+    let kept = holdings::reserve_of(lines, slots, n, m);
     if kept == 0 {
         return true;
     }
@@ -281,52 +265,41 @@ fn many_sound(lines: &[u8], slots: &[u8], n: usize, form: LineForm, m: usize) ->
 }
 
 // The rules of several entries. Up to FEW slots, comparing all pairs takes less time than setting the tables of first slots up.
-fn holdings_sound(
-    lines: &[u8],
-    slots: &[u8],
-    n: usize,
-    form: LineForm,
-    m: usize,
-    shares: usize,
-) -> bool
-    requires { (n ≤ 64) × (m ≤ 16) × (line_size (form_of form) * m ≤ length lines.now) × (320 * n ≤ length slots.now) × (shares ≤ 64) × (shares ≡ shares_of (lines_to (line_size (form_of form)) lines.now m)) × (every valid_line (lines_to (line_size (form_of form)) lines.now m) ≡ true) × (no_two same_address (lines_to (line_size (form_of form)) lines.now m) ≡ true) × (held_right (form_of form) lines.now (held_of (slots_to slots.now n)) m ≡ true) }
-    ensures { result ≡ entries_sound slots.now (lines_to (line_size (form_of form)) lines.now m) n }
+fn holdings_sound(lines: &[u8], slots: &[u8], n: usize, m: usize, shares: usize) -> bool
+    requires { (n ≤ 64) × (m ≤ 16) × (19 * m ≤ length lines.now) × (320 * n ≤ length slots.now) × (shares ≤ 64) × (shares ≡ shares_of (lines_to lines.now m)) × (every valid_line (lines_to lines.now m) ≡ true) × (no_two same_address (lines_to lines.now m) ≡ true) }
+    ensures { result ≡ entries_sound slots.now (lines_to lines.now m) n }
 {
     if n <= FEW {
-        return few_sound(lines, slots, n, layout::line_size(form), m, shares);
+        return few_sound(lines, slots, n, m, shares);
     }
-    many_sound(lines, slots, n, form, m)
+    many_sound(lines, slots, n, m)
 }
 
 // The rules of a roster, and those of several entries, with n slots.
-fn rules_sound(lines: &[u8], slots: &[u8], n: usize, form: LineForm, m: usize) -> bool
-    requires { (n ≤ 64) × (m ≤ 16) × (line_size (form_of form) * m ≤ length lines.now) × (320 * n ≤ length slots.now) × (held_right (form_of form) lines.now (held_of (slots_to slots.now n)) m ≡ true) }
-    ensures { result ≡ (sound_roster n (lines_to (line_size (form_of form)) lines.now m) && entries_sound slots.now (lines_to (line_size (form_of form)) lines.now m) n) }
+fn rules_sound(lines: &[u8], slots: &[u8], n: usize, m: usize) -> bool
+    requires { (n ≤ 64) × (m ≤ 16) × (19 * m ≤ length lines.now) × (320 * n ≤ length slots.now) }
+    ensures { result ≡ (sound_roster n (lines_to lines.now m) && entries_sound slots.now (lines_to lines.now m) n) }
 {
-    let w = layout::line_size(form);
-    if !roster::lines_good(lines, w, m) {
+    if !roster::lines_good(lines, m) {
         return false;
     }
-    let shares = roster::share_sum(lines, w, m);
+    let shares = roster::share_sum(lines, m);
     if shares > n {
         return false;
     }
-    holdings_sound(lines, slots, n, form, m, shares)
+    holdings_sound(lines, slots, n, m, shares)
 }
 
-// The rules of a table's lines and slots, each record by itself first. Held is counted again, so that what follows can go by it.
-fn parts_sound(lines: &[u8], slots: &[u8], n: usize, form: LineForm, running: u32) -> bool
-    requires { (n ≤ 64) × (line_size (form_of form) * 16 ≤ length lines.now) × (320 * n ≤ length slots.now) }
-    ensures { result ≡ (parts_shape (form_of form) lines.now slots.now n && rules_of (form_of form) running lines.now slots.now n) }
+// The rules of a table's lines and slots, each record by itself first.
+fn parts_sound(lines: &[u8], slots: &[u8], n: usize, running: u32) -> bool
+    requires { (n ≤ 64) × (304 ≤ length lines.now) × (320 * n ≤ length slots.now) }
+    ensures { result ≡ (parts_shape lines.now slots.now n && rules_of running lines.now slots.now n) }
 {
-    let m = roster::listed_lines(lines, form);
-    if !records_good(lines, slots, n, form, m, running) {
+    let m = roster::listed_lines(lines);
+    if !records_good(lines, slots, n, m, running) {
         return false;
     }
-    if !holdings::held_right(lines, slots, n, form, m) {
-        return false;
-    }
-    rules_sound(lines, slots, n, form, m)
+    rules_sound(lines, slots, n, m)
 }
 
 // The bytes are those of a sound table. The clock record is looked at here, lines and slots each in the part that starts with them.
@@ -347,9 +320,9 @@ pub fn sound(t: &[u8], l: Layout) -> bool
         return false;
     }
     let a = l.lines_at as usize;
-    let z = l.slots_at as usize;
-    let form = l.lines;
-    parts_sound(&t[a..], &t[z..], n, form, c.running)
+    let lines = &t[a..];
+    let z = layout::ROSTER;
+    parts_sound(lines, &lines[z..], n, c.running)
 }
 
 // The bytes are 0 to 16 records of kind 0x03 that meet the roster rules of n slots.
@@ -367,5 +340,5 @@ pub fn roster_sound(r: &[u8], n: usize) -> bool
     if !roster::kinds_listed(r, m) {
         return false;
     }
-    roster::lines_sound(r, layout::LINE, m, n)
+    roster::lines_sound(r, m, n)
 }

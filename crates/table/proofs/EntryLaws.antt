@@ -1,6 +1,6 @@
 -- Laws for an entry written into a slot. Assumes nothing.
 use Prim.Native.Nat.{ℕ, zero, suc, ◌+◌, ◌-◌, ◌*◌, ◌/◌, ◌%◌, ◌^◌, ◌≤◌, ◌<◌}
-use native.Mathlib.Nat.{add-zero, add-suc, lt_of_lt_of_le, mul_assoc, mul-le-mul_right, pow-suc}
+use native.Mathlib.Nat.{add-zero, add-suc, mul_assoc, pow-suc}
 use native.Mathlib.Omega.{arith}
 use mathlib.Core.Path.{◌≡◌, sym, ◌∙◌}
 use mathlib.Core.Bool.{false}
@@ -12,7 +12,6 @@ use Rattle.model.specs.Table.{held, slot_bytes}
 use Rattle.model.proofs.NumberLaws.{splice-splice, splice-on, splice_all, length-bytes, length-encode, length_part}
 use Rattle.model.proofs.ListLaws.{length-map}
 use Rattle.entries.specs.declared.Entry.{Entry}
-use Rattle.entries.specs.Reads.{address_of}
 use Rattle.record.specs.declared.State.TheVariants.{Pending}
 use Rattle.table.specs.Stored.{holder_fields, holder_halves, lease_fields, name_bytes, entry_bytes, stored_as}
 
@@ -26,12 +25,6 @@ bytes-add j (suc k) x y h =
     let d : (x * 256 ^ k * 256 + y) / 256 ≡ x * 256 ^ k + y / 256 = omega arith in
     let m : (x * 256 ^ k * 256 + y) % 256 ≡ y % 256 = omega arith in
     rw (add-suc, pow-suc, p, d, m, bytes-add j k x (y / 256) (omega arith), append_assoc)
-
--- an address of two halves fits its field
-pub address-fits : (high low : ℕ) → high < 2 ^ 64 → low < 2 ^ 64 → address_of high low < 256 ^ 16
-address-fits high low h l =
-    let a : high * 2 ^ 64 + low < suc high * 2 ^ 64 = omega arith in
-    lt_of_lt_of_le a (mul-le-mul_right (2 ^ 64) h)
 
 pub halves-written : (e : Entry) → e.low < 2 ^ 64 → encode (holder_halves e) ≡ encode (holder_fields e)
 unfolding encode

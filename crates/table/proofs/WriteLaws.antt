@@ -2,30 +2,25 @@
 use Prim.Native.Nat.{ℕ, ◌+◌, ◌-◌, ◌*◌, ◌^◌, ◌≤◌, ◌<◌}
 use native.Mathlib.Omega.{arith}
 use mathlib.Core.Path.{◌≡◌, refl, sym, ap, ◌∙◌, subst}
-use mathlib.Core.Bool.{Bool, true, false}
 use mathlib.Core.List.{List, [], ◌∷◌, ◌++◌, append_assoc}
-use lib.ListN.{length, get_or, take, drop, set, replicate, length-append}
+use lib.ListN.{length, take, drop, replicate, length-append}
 use lib.Seq.{length-take-le, take_at, drop_at}
-use borrow.Author.Tests.{eq-eqb}
-use Rattle.model.specs.Lists.{up_to, flat}
+use Rattle.model.specs.Lists.{flat}
 use Rattle.model.specs.Numbers.{Bytes, bytes_of, part, splice, encode}
 use Rattle.model.specs.Clock.{Clock}
-use Rattle.model.specs.Table.{LineForm, plain, counted, Entry, Slot, free, held, Layout, Table, held_field, of_address, held_of, unused_line, read_line, line_at, listed, place_bytes, clock_bytes, roster_bytes, slot_bytes, table_bytes, read_table, read_slot, lines_at, base, slot_at, size_of, layout_of, slots_in, kind_of}
+use Rattle.model.specs.Table.{Entry, Slot, free, held, Layout, Table, place_bytes, clock_bytes, roster_bytes, slot_bytes, table_bytes, read_table, read_slot, base, slot_at, size_of, layout_of, slots_in, unused_line, kind_of}
 use Rattle.model.specs.Rules.{granted_lease}
-use Rattle.model.specs.Sound.{FitsEntry, FitsSlot, Fits}
-use Rattle.model.specs.Serve.{with_clock, with_slot, ended, establish, renew}
-use Rattle.model.proofs.NumberLaws.{splice-splice, splice-mid, splice-part, length-encode, encode-first, encode-append}
-use Rattle.model.proofs.ListLaws.{count-le, count_at, length-up_to}
+use Rattle.model.specs.Sound.{FitsSlot, Fits}
+use Rattle.model.specs.Serve.{with_clock, with_slots, with_slot, establish, renew}
+use Rattle.model.proofs.NumberLaws.{splice-splice, splice-mid, splice-part, length-encode, encode-first}
 use Rattle.model.proofs.SlotLaws.{kind-lt}
-use Rattle.model.proofs.TableLaws.{row_of, length-head, with-slot-held, roster-ext, clock_fields, with-clock, length-clock}
+use Rattle.model.proofs.TableLaws.{with-slot, clock_fields, with-clock, length-clock, length-roster}
 use Rattle.model.proofs.RoundTrip.{table-back}
 use Rattle.model.proofs.Meaning.{fits_read, lines-read, slots_read, layout-read}
 use Rattle.model.proofs.StepLaws.{fits-with-slot, fits-with-clock}
-use Rattle.layout.proofs.ReadLaws.{slot_read, formed-size, formed-slot}
-use Rattle.layout.proofs.PartLaws.{part-drop}
-use Rattle.table.specs.Written.{WellFormed, Written}
-use Rattle.table.specs.Counted.{StepFits, HeldFits, lines_moved, LinesFit, held_step, bytes_with}
-use Rattle.table.proofs.CountedLaws.{lines_fit, lines-moved, ended_held, stored-held, kept-held}
+use Rattle.layout.proofs.ReadLaws.{formed-size, formed-slot}
+use Rattle.layout.proofs.PartLaws.{part-drop, tail-is, slots_read as slots-part}
+use Rattle.table.specs.Written.{WellFormed, FormedSlots, Written}
 
 -- bytes that are not written stay as they are
 pub unwritten : (b : List ℕ) → WellFormed b → Written b (read_table b)
@@ -46,40 +41,16 @@ module _ (b : List ℕ) (bytes : Bytes b) (formed : WellFormed b) where
   abbrev l : Layout
   l = layout_of (length b)
 
-  -- slot i written, behind lines that say what is held then
-  pub slot-written : (i : ℕ) (s : Slot) → i < slots_in (length b) → FitsSlot s → (x : List ℕ)
-      → x ≡ splice (slot_at l i) 320 (slot_bytes s) (bytes_with (read_table b) (held_of (set (read_table b).slots i s))) → Written x (with_slot (read_table b) i s)
+  -- slot i written
+  pub slot-written : (i : ℕ) (s : Slot) → i < slots_in (length b) → FitsSlot s → (x : List ℕ) → x ≡ splice (slot_at l i) 320 (slot_bytes s) b
+      → Written x (with_slot (read_table b) i s)
   slot-written i s h f x e =
-      let t = read_table b in
       let r = fits_read b bytes in
-      let c = held_of (set t.slots i s) in
-      written x (with_slot t i s) (lines-read b) (fits-with-slot t i s r f)
+      written x (with_slot (read_table b) i s) (lines-read b) (fits-with-slot (read_table b) i s r f)
       (e
-      ∙ ap (λ (k : Layout). splice (slot_at k i) 320 (slot_bytes s) (bytes_with t c)) (sym (layout-read b))
-      ∙ ap (splice (slot_at t.layout i) 320 (slot_bytes s)) (sym (append_assoc (clock_bytes t.layout t.clock) (roster_bytes t.layout.lines c t.roster) (flat slot_bytes t.slots)))
-      ∙ with-slot-held t (lines-read b) r i s (rw (slots_read b) h))
-
-  -- the table's bytes with lines of counts that agree
-  pub with-held : (c d : ℕ → ℕ) → ((a : ℕ) → c a ≡ d a) → bytes_with (read_table b) c ≡ bytes_with (read_table b) d
-  with-held c d e =
-      let t = read_table b in
-      ap (λ (r : List ℕ). clock_bytes t.layout t.clock ++ (r ++ flat slot_bytes t.slots)) (roster-ext t.layout.lines c d (λ a. ap (held_field t.layout.lines) (e a)) t.roster)
-
-  own_held : bytes_with (read_table b) (held_of (read_table b).slots) ≡ b
-  unfolding table_bytes
-  own_held = formed
-
-  -- slot i written alone: its entry changes, and its address does not
-  pub entry-written : (i : ℕ) (e f : Entry) → i < slots_in (length b) → read_slot (drop (base l) b) (320 * i) ≡ held e → f.address ≡ e.address → FitsEntry f → (x : List ℕ)
-      → x ≡ splice (slot_at l i) 320 (slot_bytes (held f)) b → Written x (with_slot (read_table b) i (held f))
-  entry-written i e f h q a v x y =
-      let s = (read_table b).slots in
-      let m : i < length s = rw (slots_read b) h in
-      let here : get_or s i free ≡ held e = slot_read b i free h ∙ q in
-      slot-written i (held f) h v x
-      (y
-      ∙ ap (splice (slot_at l i) 320 (slot_bytes (held f)))
-      (sym own_held ∙ with-held (held_of s) (held_of (set s i (held f))) (kept-held s i m e f here a)))
+      ∙ ap (λ (k : Layout). splice (slot_at k i) 320 (slot_bytes s) b) (sym (layout-read b))
+      ∙ ap (splice (slot_at (read_table b).layout i) 320 (slot_bytes s)) (sym formed)
+      ∙ with-slot (read_table b) (lines-read b) r i s (rw (slots_read b) h))
 
   -- the clock written
   pub clock-written : (c : Clock) → c.place < 256 ^ place_bytes l → c.running < 256 ^ 4 → (x : List ℕ)
@@ -92,113 +63,34 @@ module _ (b : List ℕ) (bytes : Bytes b) (formed : WellFormed b) where
       ∙ ap (splice 1 (place_bytes k + 4) (encode (clock_fields k c))) (sym formed)
       ∙ with-clock (read_table b) c)
 
-  -- ITS PARTS
+  -- ITS SLOTS' PART
+  abbrev head : List ℕ
+  head = clock_bytes (read_table b).layout (read_table b).clock ++ roster_bytes (read_table b).roster
 
-  abbrev t : Table
-  t = read_table b
+  head-length : length head ≡ base l
+  head-length =
+      rw (length-append, length-clock (read_table b).layout (read_table b).clock, length-roster (read_table b).roster (lines-read b), layout-read b)
 
-  head-length : (c : ℕ → ℕ) → length (clock_bytes t.layout t.clock ++ roster_bytes t.layout.lines c t.roster) ≡ base l
-  head-length c = length-head t (lines-read b) (fits_read b bytes) c ∙ ap base (layout-read b)
+  split : b ≡ head ++ flat slot_bytes (read_table b).slots
+  unfolding table_bytes
+  split =
+      sym formed
+      ∙ sym (append_assoc (clock_bytes (read_table b).layout (read_table b).clock) (roster_bytes (read_table b).roster) (flat slot_bytes (read_table b).slots))
 
-  -- the bytes before the slots, and the slots behind
-  pub slots-behind : (c : ℕ → ℕ) → drop (base l) (bytes_with t c) ≡ flat slot_bytes t.slots
-  slots-behind c =
-      ap (drop (base l)) (sym (append_assoc (clock_bytes t.layout t.clock) (roster_bytes t.layout.lines c t.roster) (flat slot_bytes t.slots)))
-      ∙ drop_at (clock_bytes t.layout t.clock ++ roster_bytes t.layout.lines c t.roster) (flat slot_bytes t.slots) (base l) (head-length c)
+  pub formed-slots : (n : ℕ) → length b ≡ size_of l n → FormedSlots (drop (base l) b) n
+  formed-slots n size =
+      ap (flat slot_bytes) (sym (slots-part b n size)) ∙ sym (ap (drop (base l)) split ∙ drop_at head (flat slot_bytes (read_table b).slots) (base l) head-length)
 
-  -- the clock's record, and the lines behind it
-  clock-length : length (clock_bytes t.layout t.clock) ≡ lines_at l
-  clock-length = length-clock t.layout t.clock ∙ ap lines_at (layout-read b)
+  pub with-slots : (s : List Slot) → take (base l) b ++ flat slot_bytes s ≡ table_bytes (with_slots (read_table b) s)
+  unfolding table_bytes
+  with-slots s =
+      let t : take (base l) b ≡ head = ap (take (base l)) split ∙ take_at head (flat slot_bytes (read_table b).slots) (base l) head-length in
+      rw t (append_assoc (clock_bytes (read_table b).layout (read_table b).clock) (roster_bytes (read_table b).roster) (flat slot_bytes s))
 
-  pub lines-behind : drop (lines_at l) b ≡ roster_bytes t.layout.lines (held_of t.slots) t.roster ++ flat slot_bytes t.slots
-  lines-behind =
-      ap (drop (lines_at l)) (sym own_held)
-      ∙ drop_at (clock_bytes t.layout t.clock) (roster_bytes t.layout.lines (held_of t.slots) t.roster ++ flat slot_bytes t.slots) (lines_at l) clock-length
-
-  pub clock-before : take (lines_at l) b ≡ clock_bytes t.layout t.clock
-  clock-before =
-      ap (take (lines_at l)) (sym own_held)
-      ∙ take_at (clock_bytes t.layout t.clock) (roster_bytes t.layout.lines (held_of t.slots) t.roster ++ flat slot_bytes t.slots) (lines_at l) clock-length
-
-  -- HELD MOVED BY ONE: plain lines say nothing of it
-
-  any_held : (f : LineForm) → f ≡ plain → (h k : ℕ) → held_field f h ≡ held_field f k
-  any_held f e h k = subst (λ (g : LineForm). held_field g h ≡ held_field g k) (sym e) refl
-
-  pub held_plain : t.layout.lines ≡ plain → (c : ℕ → ℕ) → b ≡ bytes_with t c
-  held_plain e c =
-      sym own_held
-      ∙ ap (λ (r : List ℕ). clock_bytes t.layout t.clock ++ (r ++ flat slot_bytes t.slots))
-      (roster-ext t.layout.lines (held_of t.slots) c (λ a. any_held t.layout.lines e (held_of t.slots a) (c a)) t.roster)
-
-  -- counted lines do
-  lines-many : listed l.lines (drop (lines_at l) b) 16 ≡ length t.roster
-  unfolding read_table
-  lines-many = sym (length-up_to (listed l.lines (drop (lines_at l) b) 16) (λ j. read_line b (line_at l j)))
-
-  held-most : slots_in (length b) ≤ 64 → (a : ℕ) → held_of t.slots a ≤ 64
-  held-most h a = let n = slots_read b in omega (arith, count-le t.slots (of_address a))
-
-  module _ (e : t.layout.lines ≡ counted) (small : slots_in (length b) ≤ 64) (more : Bool) (a : ℕ) where
-    abbrev c : ℕ → ℕ
-    c = held_of t.slots
-
-    behind-lines : List ℕ
-    behind-lines = flat (λ (i : ℕ). unused_line counted) (up_to (16 - length t.roster) (λ i. i)) ++ flat slot_bytes t.slots
-
-    split : (d : ℕ → ℕ) → roster_bytes t.layout.lines d t.roster ++ flat slot_bytes t.slots ≡ flat (row_of counted d) t.roster ++ behind-lines
-    unfolding roster_bytes behind-lines
-    split d =
-        ap (λ (f : LineForm). roster_bytes f d t.roster ++ flat slot_bytes t.slots) e
-        ∙ append_assoc (flat (row_of counted d) t.roster) (flat (λ (i : ℕ). unused_line counted) (up_to (16 - length t.roster) (λ i. i))) (flat slot_bytes t.slots)
-
-    lines_are : drop (lines_at l) b ≡ flat (row_of counted c) t.roster ++ behind-lines
-    lines_are = lines-behind ∙ split c
-
-    byte : (x : ℕ) → c x < 256
-    byte x = omega (arith, held-most small x)
-
-    step_fits : (v : Bool) → HeldFits v (c a) → (x : ℕ) → x ≡ a → StepFits v (c x)
-    step_fits true h x q = omega (arith, held-most small x)
-    step_fits false h x q = rw q h
-
-    pub held_fits : HeldFits more (c a) → {m : ℕ} {s : List ℕ} → s ≡ drop (lines_at l) b → m ≡ listed l.lines (drop (lines_at l) b) 16 → LinesFit more a s m
-    held_fits h {m = m} es em =
-        subst (λ (s : List ℕ). LinesFit more a s m) (sym (es ∙ lines_are))
-        (subst (LinesFit more a (flat (row_of counted c) t.roster ++ behind-lines)) (sym (em ∙ lines-many))
-        (lines_fit more a c t.roster behind-lines (fits_read b bytes).lines byte (step_fits more h)))
-
-    pub held_moved : {m : ℕ} {s x : List ℕ} → s ≡ drop (lines_at l) b → m ≡ listed l.lines (drop (lines_at l) b) 16 → x ≡ lines_moved more a s m
-        → take (lines_at l) b ++ x ≡ bytes_with t (held_step more a c)
-    held_moved {s = s} es em ex =
-        let y = ex ∙ ap (λ (k : ℕ). lines_moved more a s k) (em ∙ lines-many) ∙ ap (λ (s : List ℕ). lines_moved more a s (length t.roster)) (es ∙ lines_are)
-        ∙ lines-moved more a c t.roster behind-lines (fits_read b bytes).lines byte ∙ sym (split (held_step more a c)) in
-        ap (λ (z : List ℕ). take (lines_at l) b ++ z) y ∙ ap (λ (z : List ℕ). z ++ (roster_bytes t.layout.lines (held_step more a c) t.roster ++ flat slot_bytes t.slots)) clock-before
-
-  -- AN ENTRY ENDS, OR IS STORED: held of its address is moved, then its slot is written
-
-  module _ (i : ℕ) (h : i < slots_in (length b)) where
-    inside : i < length t.slots
-    inside = rw (slots_read b) h
-
-    -- an entry's address holds it
-    pub holds-one : (e : Entry) → read_slot (drop (base l) b) (320 * i) ≡ held e → 1 ≤ held_of t.slots e.address
-    unfolding of_address
-    holds-one e q =
-        count_at t.slots i free (of_address e.address) inside
-        (ap (of_address e.address) (slot_read b i free h ∙ q) ∙ eq-eqb e.address e.address refl)
-
-    pub ended-written : (e : Entry) → read_slot (drop (base l) b) (320 * i) ≡ held e → {x y : List ℕ} → y ≡ bytes_with t (held_step false e.address (held_of t.slots))
-        → x ≡ splice (slot_at l i) 320 (slot_bytes ended) y → Written x (with_slot t i ended)
-    ended-written e q {x = x} ey ex =
-        slot-written i free h tt x
-        (ex ∙ ap (splice (slot_at l i) 320 (slot_bytes free)) (ey ∙ with-held _ (held_of (set t.slots i free)) (ended_held t.slots i inside e (slot_read b i free h ∙ q))))
-
-    pub stored-written : (e : Entry) → FitsEntry e → read_slot (drop (base l) b) (320 * i) ≡ free → {s x y : List ℕ} → y ≡ bytes_with t (held_step true e.address (held_of t.slots))
-        → s ≡ slot_bytes (held e) → x ≡ splice (slot_at l i) 320 s y → Written x (with_slot t i (held e))
-    stored-written e v q {x = x} {y = y} ey es ex =
-        slot-written i (held e) h v x
-        (ex ∙ ap (λ (s : List ℕ). splice (slot_at l i) 320 s y) es ∙ ap (splice (slot_at l i) 320 (slot_bytes (held e))) (ey ∙ with-held _ (held_of (set t.slots i (held e))) (stored-held t.slots i inside e (slot_read b i free h ∙ q))))
+-- it is lent
+pub lent-formed : {x : List ℕ} → WellFormed x → Bytes x → (n : ℕ) → length x ≡ size_of (layout_of (length x)) n → {a : ℕ} → a ≡ base (layout_of (length x))
+    → FormedSlots (take (length x - a) (drop a x)) n
+lent-formed {x = x} formed bytes n size e = subst (λ (y : List ℕ). FormedSlots y n) (sym (tail-is x e)) (formed-slots x bytes formed n size)
 
 -- SOME FIELDS OF A ROW WRITTEN
 
@@ -212,6 +104,11 @@ row-edit b p m q vs at o k w h e lp lm =
     sym (splice-part at w b) ∙ ap (λ (s : List ℕ). x ++ (s ++ z)) e ∙ simp append_assoc in
     let l : length (x ++ p) ≡ at + o = length-append x p ∙ (rw (length-take-le at b h, lp)) in
     ap (splice (at + o) k vs) whole ∙ splice-mid (x ++ p) m (q ++ z) vs (at + o) k l lm ∙ simp append_assoc
+
+encode-append : (f g : List (ℕ × ℕ)) → encode (f ++ g) ≡ encode f ++ encode g
+unfolding encode
+encode-append [] g = refl
+encode-append (x ∷ f) g = ap (λ (s : List ℕ). bytes_of x.0 x.1 ++ s) (encode-append f g) ∙ sym (append_assoc (bytes_of x.0 x.1) (encode f) (encode g))
 
 -- an entry's fields before the lease, and behind the stamp
 abbrev before : Entry → List (ℕ × ℕ)
@@ -268,3 +165,7 @@ module _ (b : List ℕ) (bytes : Bytes b) (formed : WellFormed b) (i : ℕ) (h :
 pub free_bytes : (s : List ℕ) (a : ℕ) → a + 320 ≤ length s → splice (a + 1) 319 (replicate 319 0) (splice a 1 (bytes_of 1 4) s) ≡ splice a 320 (slot_bytes free) s
 unfolding slot_bytes bytes_of
 free_bytes s a h = splice-splice a 1 319 (4 ∷ []) (replicate 319 0) s refl (omega arith)
+
+pub unused-bytes : (s : List ℕ) (a : ℕ) → a + 19 ≤ length s → splice (a + 1) 18 (replicate 18 0) (splice a 1 (bytes_of 1 2) s) ≡ splice a 19 unused_line s
+unfolding unused_line bytes_of
+unused-bytes s a h = splice-splice a 1 18 (2 ∷ []) (replicate 18 0) s refl (omega arith)

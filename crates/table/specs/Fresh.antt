@@ -1,17 +1,12 @@
--- What making writes, and writing from another table. Assumes nothing.
+-- What making writes. Assumes nothing.
 use Rattle.std.specs.Prelude.{ℕ, List, replicate}
 use Rattle.model.specs.Lists.{up_to, flat}
-use Rattle.model.specs.Table.{LineForm, Layout, Table, free, line_bytes, slot_bytes, unused_line}
+use Rattle.model.specs.Table.{Layout, Table, free, slot_bytes, unused_line}
 use Rattle.model.specs.Calls.{roster_lines}
-use Rattle.layout.specs.Shape.{lines_to}
-
--- the first m lines of bytes r, of w bytes each, as listed lines of form f, of addresses that hold as many entries as c says
-unfoldable pub listed_lines : LineForm → (ℕ → ℕ) → ℕ → List ℕ → ℕ → List ℕ
-listed_lines f c w r m = flat (λ l. line_bytes f (c l.address) l) (lines_to w r m)
 
 -- k unused roster lines
-unfoldable pub unused_lines : LineForm → ℕ → List ℕ
-unused_lines f k = flat (λ (i : ℕ). unused_line f) (up_to k (λ i. i))
+unfoldable pub unused_lines : ℕ → List ℕ
+unused_lines k = flat (λ (i : ℕ). unused_line) (up_to k (λ i. i))
 
 -- n free slots
 unfoldable pub free_slots : ℕ → List ℕ

@@ -8,12 +8,11 @@
 //!
 //! Exits with 1 if the sides do not agree, before anything is timed or after.
 
-use oracle::calls::Way;
 use oracle::clock::Weeks;
 #[cfg(feature = "before")]
 use oracle::server::Before;
 use oracle::server::{Linked, Oracle, Plain, Server};
-use oracle::table::{Layout, Lines, LINES};
+use oracle::table;
 use std::hint::black_box;
 use std::ops::Range;
 use std::process::ExitCode;
@@ -22,23 +21,23 @@ use std::time::{Duration, Instant};
 struct Side {
     name: &'static str,
     server: &'static dyn Server,
-    /// Tables whose lines have held are known to it, and moves.
-    held: bool,
+    /// Tables for weeks of thirteen bits are known to it.
+    wide: bool,
 }
 
 /// The library first: the others are what it is compared with.
 const SIDES: &[Side] = &[
-    Side { name: "library", server: &Linked, held: true },
-    Side { name: "oracle", server: &Oracle, held: true },
-    Side { name: "plain C", server: &Plain, held: true },
+    Side { name: "library", server: &Linked, wide: true },
+    Side { name: "oracle", server: &Oracle, wide: true },
+    Side { name: "plain C", server: &Plain, wide: true },
     // It refuses the lengths of those tables with 1: there is no time of it in their rows.
     #[cfg(feature = "before")]
-    Side { name: "before", server: &Before, held: false },
+    Side { name: "before", server: &Before, wide: false },
 ];
 
 impl Side {
-    fn knows(&self, call: Call, layout: Layout) -> bool {
-        self.held || layout.lines == Lines::Plain && !matches!(call, Move(_))
+    fn knows(&self, weeks: Weeks) -> bool {
+        self.wide || weeks == Weeks::Ten
     }
 }
 
@@ -87,20 +86,11 @@ enum Call {
     TickAlike,
     /// That setup where they are the same but for their first letter.
     SetupUnlike,
-    /// A tick of a table with 16 roster lines.
-    TickListed,
-    /// A refresh of 1 question on such a table.
-    RefreshListed,
-    /// Setups of 8 new questions that are told full: each of 16 listed addresses holds half of its share,
-    /// and all free slots are reserved to them.
-    SetupsFull,
-    /// The table moved into another buffer.
-    Move(Way),
 }
 
 use Call::*;
 
-const CALLS: [Call; 17] = [
+const CALLS: [Call; 12] = [
     Tick,
     Refresh(1),
     Refresh(4),
@@ -113,31 +103,23 @@ const CALLS: [Call; 17] = [
     SetupAlike,
     TickAlike,
     SetupUnlike,
-    TickListed,
-    RefreshListed,
-    SetupsFull,
-    Move(Way::ToHeld),
-    Move(Way::FromHeld),
 ];
 
-const HELD: Layout = Layout::TEN.counted();
-
-/// Each call with the layout of its table; those of several one after the other.
-fn rows() -> impl Iterator<Item = (Call, Layout)> {
-    CALLS.into_iter().flat_map(|call| call.layouts().iter().map(move |&layout| (call, layout)))
+/// Each call with the weeks that its table is for; those of both one after the other.
+fn rows() -> impl Iterator<Item = (Call, Weeks)> {
+    CALLS.into_iter().flat_map(|call| {
+        let wide = call.is_wide_too().then_some((call, Weeks::Thirteen));
+        [(call, Weeks::Ten)].into_iter().chain(wide)
+    })
 }
 
 /// What a row is called.
-fn row_name(call: Call, layout: Layout) -> String {
-    let short = match call {
-        Tick => "tick".into(),
-        Refresh(questions) => format!("refresh of {questions}"),
-        _ => call.name(),
-    };
-    match (call, layout) {
-        (Move(_), _) | (_, Layout::TEN) => call.name(),
-        (_, HELD) => format!("{short}, held"),
-        _ => format!("{short}, 13-bit weeks"),
+fn row_name(call: Call, weeks: Weeks) -> String {
+    match (call, weeks) {
+        (_, Weeks::Ten) => call.name(),
+        (Tick, _) => "tick, 13-bit weeks".into(),
+        (Refresh(questions), _) => format!("refresh of {questions}, 13-bit weeks"),
+        _ => format!("{}, 13-bit weeks", call.name()),
     }
 }
 
@@ -156,11 +138,6 @@ impl Call {
             SetupAlike => "repeated setup, all alike".into(),
             TickAlike => "tick, all alike".into(),
             SetupUnlike => "repeated setup, all unlike".into(),
-            TickListed => "tick, 16 lines".into(),
-            RefreshListed => "refresh of 1, 16 lines".into(),
-            SetupsFull => "8 setups told full".into(),
-            Move(Way::ToHeld) => "to_held".into(),
-            Move(Way::FromHeld) => "from_held".into(),
         }
     }
 
@@ -169,39 +146,17 @@ impl Call {
         match self {
             Refresh(questions) => questions,
             LongSetup => 4,
-            SetupsFull => 8,
             _ => 1,
         }
     }
 
-    /// The layouts of the tables that it is timed on.
-    fn layouts(self) -> &'static [Layout] {
-        match self {
-            Tick | Refresh(1) => &[Layout::TEN, Layout::THIRTEEN, HELD],
-            TickListed | RefreshListed | SetupsFull => &[Layout::TEN, HELD],
-            Move(Way::FromHeld) => &[HELD],
-            _ => &[Layout::TEN],
-        }
-    }
-
-    /// The numbers of slots that it is timed on.
-    fn slots(self) -> &'static [usize] {
-        match self {
-            TickListed | RefreshListed | SetupsFull | Move(_) => &[64],
-            _ => &SLOTS,
-        }
-    }
-
-    /// How many roster lines its table has; of few slots one less.
-    fn lines(self) -> usize {
-        match self {
-            TickListed | RefreshListed | SetupsFull | Move(_) => LINES,
-            _ => 4,
-        }
+    /// Timed on tables for weeks of thirteen bits too.
+    fn is_wide_too(self) -> bool {
+        matches!(self, Tick | Refresh(1))
     }
 
     fn is_tick(self) -> bool {
-        matches!(self, Tick | TickAlike | TickListed)
+        matches!(self, Tick | TickAlike)
     }
 
     fn is_repeated_setup(self) -> bool {
@@ -222,7 +177,6 @@ impl Call {
         match (self, self.differ_at()) {
             (_, Some(_)) => slots,
             (Handshake, _) => 3,
-            (SetupsFull, _) => 0,
             _ => self.questions().max(2),
         }
     }
@@ -231,7 +185,7 @@ impl Call {
     fn asked(self, held: usize) -> Range<usize> {
         match self.differ_at() {
             Some(_) => held - 1..held,
-            None => 0..self.questions().min(held),
+            None => 0..self.questions(),
         }
     }
 
@@ -239,16 +193,7 @@ impl Call {
     fn free(self) -> usize {
         match self {
             Handshake => 1,
-            SetupsFull => 2 * LINES,
             _ => 0,
-        }
-    }
-
-    /// How many entries those have who do not call, in turn.
-    fn others_hold(self) -> [usize; 2] {
-        match self {
-            SetupsFull => [2, 2],
-            _ => [2, 3],
         }
     }
 
@@ -374,36 +319,25 @@ impl Exchange {
         (served.number, served.length)
     }
 
-    /// The reply's options. It is as long as its query.
-    fn options(&self) -> impl Iterator<Item = &[u8]> {
-        let (length, questions) = (self.datagram.len(), usize::from(self.datagram[5]));
-        self.reply[length - OPTION * questions..length].chunks(OPTION)
-    }
-
-    /// The numbers in the reply's options, all of error 0.
+    /// The numbers in the reply's options, all of error 0. It is as long as its query.
     fn granted(&self) -> Vec<u64> {
         let number = |option: &[u8]| {
             assert_eq!(option[OPTION_ERROR..OPTION_NUMBER], [0, 0], "an option has error 0");
             u64::from_be_bytes(option[OPTION_NUMBER..][..8].try_into().expect("8 bytes"))
         };
-        self.options().map(number).collect()
-    }
-
-    /// Every option is told "full".
-    fn is_full(&self) -> bool {
-        self.options().all(|option| option[OPTION_ERROR..OPTION_NUMBER] == [0, 1])
+        let (length, questions) = (self.datagram.len(), usize::from(self.datagram[5]));
+        self.reply[length - OPTION * questions..length].chunks(OPTION).map(number).collect()
     }
 }
 
-/// What is timed as one call, with the bytes lent to it: a tick of the table, a move of it into the
-/// target, or datagrams one after another.
+/// What is timed as one call, with the bytes lent to it: a tick of the table, or datagrams one after
+/// another.
 #[derive(Clone)]
 struct Work {
     call: Call,
-    layout: Layout,
+    weeks: Weeks,
     from: Client,
     table: Vec<u8>,
-    target: Vec<u8>,
     exchanges: Vec<Exchange>,
 }
 
@@ -411,14 +345,10 @@ impl Work {
     /// The answer's number, and the length of its reply or how many entries it freed; of several
     /// answers the greatest number and the lengths together.
     fn run(&mut self, side: &dyn Server) -> (u32, u32) {
-        let now = (week(self.layout.weeks), NOW);
-        match self.call {
-            call if call.is_tick() => {
-                let ticked = side.tick(now.0, now.1, &mut self.table);
-                return (ticked.number, ticked.freed);
-            }
-            Move(way) => return (side.move_table(way, &self.table, &mut self.target), 0),
-            _ => {}
+        let now = (week(self.weeks), NOW);
+        if self.call.is_tick() {
+            let ticked = side.tick(now.0, now.1, &mut self.table);
+            return (ticked.number, ticked.freed);
         }
         let (from, table) = (self.from, &mut self.table);
         match &mut self.exchanges[..] {
@@ -434,7 +364,7 @@ impl Work {
     /// Serves a query by the oracle; the numbers that the reply gives.
     fn served(&mut self, query: Vec<u8>, second: u32) -> Vec<u64> {
         let mut exchange = Exchange::new(query);
-        let reading = (week(self.layout.weeks), second);
+        let reading = (week(self.weeks), second);
         let answer = exchange.serve(&Oracle, self.from, reading, &mut self.table);
         assert_eq!(answer, (0, exchange.datagram.len() as u32), "a reply is as long as its query");
         exchange.granted()
@@ -467,48 +397,36 @@ impl Work {
 
     /// Whether tables and replies are the same.
     fn same_bytes(&self, other: &Work) -> bool {
-        self.table == other.table
-            && self.target == other.target
-            && self.exchanges == other.exchanges
+        self.table == other.table && self.exchanges == other.exchanges
     }
 }
 
 /// A table filled by the oracle, and what is timed on it. Every client has 2 or 3 entries; the one
-/// who calls comes last and has 4 where it asks for 4, or has all, or none where it is told full. Every
-/// slot is taken but for one where a new question is set up, and for half of those that are reserved.
-fn work(call: Call, layout: Layout, slots: usize) -> Work {
+/// who calls comes last and has 4 where it asks for 4, or has all. Every slot is taken but for one
+/// where a new question is set up.
+fn work(call: Call, weeks: Weeks, slots: usize) -> Work {
     let mut holdings = Vec::new();
     let own = call.held(slots);
     let mut left = slots - call.free() - own;
     while left > 0 {
-        holdings.push(left.min(call.others_hold()[holdings.len() % 2]));
+        holdings.push(left.min(2 + holdings.len() % 2));
         left -= holdings.last().expect("just pushed");
     }
     holdings.push(own);
 
+    // Listed: who calls, the first two clients, and one who holds nothing.
     let last = holdings.len() - 1;
-    let listed: Vec<(usize, u8)> = match call {
-        // All but who calls.
-        SetupsFull => (0..LINES).map(|at| (at, 4)).collect(),
-        // Who calls, the first clients, and one who holds nothing.
-        _ => {
-            let others = (0..call.lines() - 2).map(|at| (at, [4, 16][at % 2]));
-            [(last, own.max(8) as u8)].into_iter().chain(others).chain([(200, 2)]).collect()
-        }
-    };
     let mut roster = Vec::new();
-    for (at, limit) in listed {
+    for (at, limit) in [(last, own.max(8) as u8), (0, 4), (1, 16), (200, 2)] {
         let held = holdings.get(at).map_or(0, |&held| held as u8);
-        let share = if matches!(call, SetupsFull) { limit } else { held.min(2) };
-        let line = [&[3][..], &Client(at as u8).address(), &[share, limit]].concat();
+        let line = [&[3][..], &Client(at as u8).address(), &[held.min(2), limit]].concat();
         if !roster.chunks(19).any(|other| other[..17] == line[..17]) {
             roster.extend(line);
         }
     }
 
-    let weeks = layout.weeks;
-    let (table, target) = (vec![0; layout.length(slots)], Vec::new());
-    let mut work = Work { call, layout, from: Client(0), table, target, exchanges: Vec::new() };
+    let table = vec![0; table::head(weeks) + table::SLOT_RECORD * slots];
+    let mut work = Work { call, weeks, from: Client(0), table, exchanges: Vec::new() };
     assert_eq!(Oracle.make(week(weeks), MADE, &mut work.table, &roster), 0, "the table is made");
     let (mut names, mut numbers) = (Vec::new(), Vec::new());
     for (at, &held) in holdings.iter().enumerate() {
@@ -524,10 +442,6 @@ fn work(call: Call, layout: Layout, slots: usize) -> Work {
         work.all_served(REFRESH, &names, &numbers, NOW);
     }
 
-    if let Move(_) = call {
-        work.target = vec![0xEE; layout.other_form().length(slots)];
-        return work;
-    }
     let asked = call.asked(own);
     let (names, numbers) = (&names[asked.clone()], &numbers[asked]);
     let query = |opcode, numbers: &[u64], lease| work.from.query(opcode, names, numbers, lease);
@@ -536,10 +450,6 @@ fn work(call: Call, layout: Layout, slots: usize) -> Work {
         // The granted lease, which every rule takes.
         Response => vec![query(SETUP, numbers, LEASE)],
         Handshake => work.handshake(own),
-        SetupsFull => {
-            let new = call.names(work.from, call.questions());
-            vec![work.from.query(SETUP, &new, &vec![0; new.len()], LEASE)]
-        }
         _ => vec![query(REFRESH, numbers, 3_600)],
     };
     work.exchanges = queries.into_iter().map(Exchange::new).collect();
@@ -561,33 +471,27 @@ fn work(call: Call, layout: Layout, slots: usize) -> Work {
 
 /// The work as a first call leaves it, from which on a call changes no byte. Every side that knows such
 /// tables is given the same bytes, twice, and must answer and leave the same.
-fn agreed(call: Call, layout: Layout, slots: usize) -> Result<Work, String> {
-    let given = work(call, layout, slots);
+fn agreed(call: Call, weeks: Weeks, slots: usize) -> Result<Work, String> {
+    let given = work(call, weeks, slots);
     let mut left = given.clone();
     let answer = left.run(&Oracle);
     assert_eq!(answer.0, call.number(), "the number that the workload is for");
     match call {
         _ if call.is_tick() => assert_eq!(answer.1, 0, "no entry runs out"),
         DamagedDatagram | DamagedTable => assert!(left.table == given.table, "refused"),
-        Move(_) => assert!(left.table == given.table, "only read"),
         _ => {
             let sent: usize = left.exchanges.iter().map(|exchange| exchange.datagram.len()).sum();
             assert_eq!(answer.1 as usize, sent, "replies are as long as their queries");
-            for exchange in &left.exchanges {
-                match call {
-                    SetupsFull => assert!(exchange.is_full(), "all is reserved"),
-                    _ => drop(exchange.granted()),
-                }
-            }
+            left.exchanges.iter().for_each(|exchange| drop(exchange.granted()));
         }
     }
     assert!(call.free() == 0 || left.table == given.table, "what is set up is ended");
-    for side in SIDES.iter().filter(|side| side.knows(call, layout)) {
+    for side in SIDES.iter().filter(|side| side.knows(weeks)) {
         let mut work = given.clone();
         for _ in 0..2 {
             let same = work.run(side.server) == answer;
             if !same || !work.same_bytes(&left) {
-                let (row, name) = (row_name(call, layout), side.name);
+                let (row, name) = (row_name(call, weeks), side.name);
                 return Err(format!("{row}, {slots} slots: {name} differs from the oracle"));
             }
         }
@@ -631,7 +535,7 @@ fn timed(work: &mut Work, timing: &Timing) -> Least {
     let mut calls = [0; SIDES.len()];
     let mut least = [None; SIDES.len()];
     for (at, side) in SIDES.iter().enumerate() {
-        if side.knows(work.call, work.layout) {
+        if side.knows(work.weeks) {
             calls[at] = calls_in(timing.batch, work, side.server);
             least[at] = Some(f64::INFINITY);
         }
@@ -657,36 +561,6 @@ fn ratio(one: Option<f64>, other: Option<f64>, width: usize) -> String {
     }
 }
 
-/// Row, slots and the least times of each side.
-type Row = (String, usize, Least);
-
-/// What a table of one layout takes by another: the same calls on the same number of slots, by the sides
-/// that know both.
-fn print_by(title: &str, one: Layout, other: Layout, times: &[Row]) {
-    let calls = || {
-        CALLS.into_iter().filter(|call| [one, other].iter().all(|of| call.layouts().contains(of)))
-    };
-    let both: Vec<usize> = (0..SIDES.len())
-        .filter(|&side| {
-            calls().all(|call| [one, other].iter().all(|&of| SIDES[side].knows(call, of)))
-        })
-        .collect();
-    let columns: String = both.iter().map(|&side| format!(" {:>10}", SIDES[side].name)).collect();
-    println!("\n{title}\n{:<28} {:>5}{columns}", "workload", "slots");
-    for call in calls() {
-        for &slots in call.slots() {
-            let [one, other] = [one, other].map(|layout| {
-                let row = row_name(call, layout);
-                let found = times.iter().find(|time| time.0 == row && time.1 == slots);
-                found.expect("every row was timed").2
-            });
-            let columns: String =
-                both.iter().map(|&side| ratio(one[side], other[side], 11)).collect();
-            println!("{:<28} {slots:>5}{columns}", call.name());
-        }
-    }
-}
-
 fn run(timing: &Timing) -> Result<(), String> {
     let [short, long] = [Client(0).name(0), Client(0).long_name(0)].map(|name| name.len());
     println!(
@@ -694,35 +568,32 @@ fn run(timing: &Timing) -> Result<(), String> {
          buffers: the same for all sides, not cleared between calls\n\
          tables: every slot taken (one free where a question is set up and ended), names of {short} \
          bytes (all of {long} where the row says so), 2 or 3 entries an address (4 for who asks for \
-         4), 3 or 4 roster lines (16 where the row says so, and in moves)\n\
+         4), 3 or 4 roster lines\n\
          all alike, all unlike: one address and port has every slot, by names of {long} bytes that \
          differ in the last letter, or in the first; who sets up again asks for the last slot's\n\
          {}: three calls, timed as one\n\
-         {}: 16 lines of share 4, each address holds 2, and the 32 free slots are theirs\n\
-         13-bit weeks: tables of 317 + 320n bytes, week {}; all others are for week {}\n\
-         held: tables of 329 + 320n bytes; to_held is from one of 313 + 320n to such, from_held back",
+         13-bit weeks: tables of 317 + 320n bytes, week {}; all others are of 313 + 320n, week {}",
         timing.batches,
         timing.batch.as_micros(),
         Handshake.name(),
-        SetupsFull.name(),
         week(Weeks::Thirteen),
         week(Weeks::Ten),
     );
     let mut all = Vec::new();
-    for (call, layout) in rows() {
-        for &slots in call.slots() {
-            all.push((slots, agreed(call, layout, slots)?));
+    for (call, weeks) in rows() {
+        for slots in SLOTS {
+            all.push((slots, agreed(call, weeks, slots)?));
         }
     }
     println!("answers, tables and replies: compared, equal on all sides that know the table\n");
     let names = || SIDES.iter().map(|side| side.name);
     let columns: String = names().map(|name| format!(" {name:>10}")).collect();
     let ratios: String = names().skip(1).map(|name| format!("  library/{name}")).collect();
-    println!("{:<28} {:>5}{columns}{ratios}", "workload", "slots");
+    println!("{:<26} {:>5}{columns}{ratios}", "workload", "slots");
     let mut times = Vec::new();
     for (slots, agreed) in all {
         let mut work = agreed.clone();
-        let row = row_name(work.call, work.layout);
+        let row = row_name(work.call, work.weeks);
         let least = timed(&mut work, timing);
         let column = |ns: &Option<f64>| match ns {
             Some(ns) => format!(" {ns:>10.0}"),
@@ -731,14 +602,27 @@ fn run(timing: &Timing) -> Result<(), String> {
         let columns: String = least.iter().map(column).collect();
         let by = |(name, ns): (&str, &Option<f64>)| ratio(least[0], *ns, name.len() + 10);
         let ratios: String = names().zip(&least).skip(1).map(by).collect();
-        println!("{row:<28} {slots:>5}{columns}{ratios}");
+        println!("{row:<26} {slots:>5}{columns}{ratios}");
         if !work.same_bytes(&agreed) {
             return Err(format!("{row}, {slots} slots: changed by timed calls"));
         }
         times.push((row, slots, least));
     }
-    print_by("13-bit weeks by those of ten bits", Layout::THIRTEEN, Layout::TEN, &times);
-    print_by("lines with held by plain ones", HELD, Layout::TEN, &times);
+    // The same call on the same number of slots, by the sides that know both tables.
+    let both = || (0..SIDES.len()).filter(|&side| SIDES[side].knows(Weeks::Thirteen));
+    let columns: String = both().map(|side| format!(" {:>10}", SIDES[side].name)).collect();
+    println!("\n13-bit weeks by those of ten bits\n{:<26} {:>5}{columns}", "workload", "slots");
+    for call in CALLS.into_iter().filter(|call| call.is_wide_too()) {
+        for slots in SLOTS {
+            let [wide, narrow] = [Weeks::Thirteen, Weeks::Ten].map(|weeks| {
+                let row = row_name(call, weeks);
+                let found = times.iter().find(|time| time.0 == row && time.1 == slots);
+                found.expect("every row was timed").2
+            });
+            let columns: String = both().map(|side| ratio(wide[side], narrow[side], 11)).collect();
+            println!("{:<26} {slots:>5}{columns}", call.name());
+        }
+    }
     Ok(())
 }
 

@@ -10,7 +10,7 @@
 //!
 //! --before        an earlier archive takes the oracle's place: number, reply buffer and
 //!                 table of each call must be what it gives; with the feature `before`.
-//!                 Random lists are then on tables with plain lines alone, and move none
+//!                 Random lists are then on tables for weeks of ten bits alone
 //! --out FILE      where a list that failed is written too
 //! --trace FILE    the list being run is written before each of its steps
 //! ```
@@ -19,7 +19,7 @@
 //! run of 200,000 calls or more has missed a number, an error, a case or a mark.
 
 use oracle::compare;
-use oracle::generate::Layouts;
+use oracle::generate::Widths;
 use oracle::runs::{self, Trace};
 use oracle::script;
 use oracle::server::{Oracle, Server};
@@ -93,13 +93,13 @@ fn reference(before: bool) -> Result<(Box<dyn Server>, &'static str), String> {
     Err("--before: built without the feature `before`".into())
 }
 
-/// The tables of random lists. An earlier archive does not know those whose lines have held: it refuses
-/// their lengths with 1, and has no moves.
-fn layouts(before: bool) -> Layouts {
+/// The tables of random lists. An earlier archive does not know those for weeks of thirteen bits: it
+/// refuses their lengths with 1.
+fn widths(before: bool) -> Widths {
     if before {
-        Layouts::Plain
+        Widths::TenBits
     } else {
-        Layouts::All
+        Widths::Both
     }
 }
 
@@ -112,9 +112,9 @@ fn compared(asked: Asked) -> Result<bool, String> {
         None => None,
     };
     let start = Instant::now();
-    let layouts = layouts(asked.before);
+    let widths = widths(asked.before);
     let (coverage, failure) =
-        runs::random_lists(&*reference, &*server, layouts, asked.seed, asked.calls, trace);
+        runs::random_lists(&*reference, &*server, widths, asked.seed, asked.calls, trace);
     println!("{} calls in {:.1} s\n{coverage}", coverage.calls, start.elapsed().as_secs_f32());
     if let Some(failure) = failure {
         println!("DIFFERENCE: {}", failure.wrong);
@@ -125,7 +125,7 @@ fn compared(asked: Asked) -> Result<bool, String> {
         }
         return Ok(false);
     }
-    let missing = coverage.missing(layouts);
+    let missing = coverage.missing(widths);
     if coverage.calls >= ENOUGH && !missing.is_empty() {
         println!("NEVER MET: {}", missing.join(", "));
         return Ok(false);
@@ -138,14 +138,14 @@ fn compared(asked: Asked) -> Result<bool, String> {
 fn told_apart(asked: Asked) -> Result<bool, String> {
     let (reference, by) = reference(asked.before)?;
     println!("seed {}: wrong variants by {by} and tally, and by the tally alone", asked.seed);
-    let layouts = layouts(asked.before);
-    let all = variants::all(asked.seed, layouts);
+    let widths = widths(asked.before);
+    let all = variants::all(asked.seed, widths);
     let mut missed = 0;
     for (name, server) in &all {
         let server = server.as_ref();
         let calls = |reference: &dyn Server| {
             let (coverage, failure) =
-                runs::random_lists(reference, server, layouts, asked.seed, asked.calls, None);
+                runs::random_lists(reference, server, widths, asked.seed, asked.calls, None);
             failure.map(|failure| (coverage.calls, failure.wrong))
         };
         let alone = calls(server).map_or("-".into(), |(calls, _)| calls.to_string());

@@ -13,16 +13,12 @@
 //! M  make; room is the table's length, the body the roster
 //! T  tick
 //! S  serve; room is the reply buffer's length, the body the datagram
-//! H  move to lines with held; room is the target's length, there is no body
-//! P  move to plain lines, alike
 //! D  print the table
 //! C  compare two names; room is the stored one's length, the body its bytes and the sent one's
 //! ```
 //!
 //! All calls are on one buffer, at first filled with 0xEE, of which the last
 //! making said how much is lent. Each reply buffer is filled with 0xAA first.
-//! A move's target is a second buffer, filled with 0xDD first; if the move is
-//! done, its bytes are put into the one buffer, and as much of that is lent.
 //! `stdout` has a line for each record, but two for each C, and none for a C
 //! whose room is more than its body. A call's line ends in a sum of the table's
 //! bytes, so that a changed byte shows:
@@ -31,8 +27,6 @@
 //! make NUMBER SUM
 //! tick NUMBER FREED SUM
 //! serve NUMBER LENGTH REPLY-BUFFER SUM
-//! held NUMBER SUM       the sum goes over the target
-//! plain NUMBER SUM
 //! table BYTES
 //! compare SAME PAIRS    the stored bytes with the sent ones folded
 //! stored SAME PAIRS     the stored bytes with the sent ones as they are
@@ -40,19 +34,15 @@
 //!
 //! SAME is 1 or 0, PAIRS how many byte pairs were looked at.
 
-use oracle::calls::Way;
 use oracle::name::{compare_stored, Compared};
 use oracle::pairs;
 use oracle::rules::{Law, Rules};
-use oracle::server::{Oracle, Server};
-use oracle::table::{shape_of, Lines};
 use std::fs;
 use std::path::Path;
 use std::process::ExitCode;
 
-/// The whole table buffer, and that of a move's target: 64 slots, weeks of thirteen bits, lines with
-/// held.
-const BUFFER: usize = 20_813;
+/// The whole table buffer: 64 slots, and weeks of thirteen bits.
+const BUFFER: usize = 20_797;
 /// The most of a reply buffer that the program lends.
 const ROOM: usize = 1_600;
 
@@ -246,8 +236,8 @@ impl Script {
 
     /// The reading of the table's last place, and its running count.
     fn clock(&self) -> (Reading, u32) {
-        // The place has 4 bytes in a table of 313 or 329 + 320n, 8 in one of 317 or 333 + 320n.
-        let end = if [317, 13].contains(&(self.length % 320)) { 9 } else { 5 };
+        // The place has 4 bytes in a table of 313 + 320n, 8 in one of 317 + 320n.
+        let end = if self.length % 320 == 317 { 9 } else { 5 };
         let number = |bytes: &[u8]| bytes.iter().fold(0, |n, &byte| n << 8 | u64::from(byte));
         let (place, count) = (number(&self.buffer[1..end]), number(&self.buffer[end..end + 4]));
         (reading(place), count as u32)
@@ -285,7 +275,8 @@ impl Script {
 
     /// A call's line, and the sum of the table's bytes.
     fn line(&mut self, text: String) {
-        let sum = sum(self.table());
+        let sum =
+            self.table().iter().fold(0, |sum, &byte| (sum * 257 + u64::from(byte)) % 4_294_967_291);
         self.print(&format!("{text} {sum}"));
     }
 
@@ -307,52 +298,6 @@ impl Script {
     /// The same for weeks of thirteen bits.
     fn make_wide(&mut self, reading: Reading, n: usize, roster: &[Vec<u8>]) -> u32 {
         self.make_in(reading, 317 + 320 * n, &roster.concat())
-    }
-
-    /// Makes a table of n slots whose lines have held.
-    fn make_held(&mut self, reading: Reading, n: usize, roster: &[Vec<u8>]) -> u32 {
-        self.make_in(reading, 329 + 320 * n, &roster.concat())
-    }
-
-    /// The same for weeks of thirteen bits.
-    fn make_wide_held(&mut self, reading: Reading, n: usize, roster: &[Vec<u8>]) -> u32 {
-        self.make_in(reading, 333 + 320 * n, &roster.concat())
-    }
-
-    /// What the first lines of a table with held say, as many as these.
-    fn helds<const N: usize>(&self) -> [u8; N] {
-        let (layout, _) = shape_of(self.length).expect("the length of a table");
-        assert_eq!(layout.lines, Lines::Counted);
-        std::array::from_fn(|line| self.buffer[layout.clock_record() + 20 * line + 19])
-    }
-
-    /// Moves the table into a buffer of this length; if it is done, the calls after it are on that.
-    fn move_to(&mut self, way: Way, length: usize) -> u32 {
-        assert!(length <= BUFFER);
-        let (kind, word) = match way {
-            Way::ToHeld => (b'H', "held"),
-            Way::FromHeld => (b'P', "plain"),
-        };
-        self.plain_record(kind, (0, 0), length, &[]);
-        let mut target = vec![0xDD; length];
-        let number = Oracle.move_table(way, self.table(), &mut target);
-        self.print(&format!("{word} {number} {}", sum(&target)));
-        if number == 0 {
-            self.buffer[..length].copy_from_slice(&target);
-            self.length = length;
-        } else {
-            assert!(target.iter().all(|&byte| byte == 0xDD));
-        }
-        number
-    }
-
-    /// Moves the table into a buffer that fits.
-    fn moved(&mut self, way: Way) {
-        let length = match way {
-            Way::ToHeld => self.length + 16,
-            Way::FromHeld => self.length - 16,
-        };
-        assert_eq!(self.move_to(way, length), 0);
     }
 
     /// The call's number and how many it freed.
@@ -447,11 +392,6 @@ fn told(reply: &[u8], options: usize) -> Vec<Told> {
         .collect()
 }
 
-/// The sum of a buffer's bytes, by which a changed one shows.
-fn sum(bytes: &[u8]) -> u64 {
-    bytes.iter().fold(0, |sum, &byte| (sum * 257 + u64::from(byte)) % 4_294_967_291)
-}
-
 fn hex(bytes: &[u8]) -> String {
     bytes.iter().map(|byte| format!("{byte:02x}")).collect()
 }
@@ -473,8 +413,6 @@ const OPTION: usize = 30;
 fn nothing_made(s: &mut Script) {
     assert_eq!(s.tick((0, 0)), (1, 0));
     assert_eq!(s.refused((0, 0), &W11), 1);
-    assert_eq!(s.move_to(Way::ToHeld, 649), 1);
-    assert_eq!(s.move_to(Way::FromHeld, 633), 1);
     // A refused making leaves the buffer's bytes.
     assert_eq!(s.make((1_024, 0), 1, &[]), 2);
     assert_eq!(s.tick((0, 0)), (1, 0));
@@ -1275,7 +1213,7 @@ fn thirteen_bit_weeks(s: &mut Script) {
     weeks_by_length(s);
     kinds_by_length(s);
 
-    // The largest table with plain lines, every slot taken; its place goes over 2^32.
+    // The largest table, every slot taken; its place goes over 2^32.
     let roster: Vec<_> = (0..16).map(|at| listed(Sender { low: at, ..DESK }, 4, 4)).collect();
     assert_eq!(s.make_wide((7_101, 282_490), 64, &roster), 0);
     for at in 0..16 {
@@ -1435,263 +1373,10 @@ fn kinds_by_length(s: &mut Script) {
     assert_eq!(s.clock(), ((0, 3_601), count + 1));
 }
 
-/// Tables whose lines have held: 329 or 333 + 320n bytes.
-fn held_beside_the_roster(s: &mut Script) {
-    // One slot and one line: held goes up with a setup, stays with a response and a refresh, and goes
-    // down with an end.
-    assert_eq!(s.make_held((7, 100), 1, &[listed(DESK, 1, 1)]), 0);
-    assert_eq!(s.length, 649);
-    let line = |held| [&[0x0B], &listed(DESK, 1, 1)[1..], &[held]].concat();
-    assert_eq!(s.table()[9..29], line(0));
-    s.dump();
-    assert_eq!(s.ask((7, 105), PANEL, 5, &[setup("a", 3_600)]), [FULL]);
-    assert_eq!(s.ask((7, 105), DESK, 7, &[setup("a", 3_600)]), [granted(7, 3_600)]);
-    assert_eq!(s.table()[9..29], line(1));
-    s.dump();
-    let told = s.ask((7, 110), DESK, 7, &[setup("a", 60), setup("b", 60)]);
-    assert_eq!(told, [granted(7, 3_595), FULL]);
-    assert_eq!(s.ask((7, 110), DESK, 7, &[response("a", 7, 3_600)]), [granted(7, 3_595)]);
-    assert_eq!(s.ask((7, 111), DESK, 7, &[refresh("a", 7, 600)]), [granted(7, 600)]);
-    assert_eq!(s.helds(), [1]);
-    assert_eq!(s.ask((7, 112), DESK, 7, &[end("a", 7)]), [granted(7, 0)]);
-    assert_eq!(s.table()[9..29], line(0));
-    s.dump();
-    // A roster is of records of kind 0x03 here too.
-    let plain = listed(DESK, 1, 1);
-    for wrong in [with(&plain, 0, [0x0B]), line(0), with(&plain, 0, [2]), listed(DESK, 2, 2)] {
-        assert_eq!(s.make_held((7, 112), 1, &[wrong]), 9);
-    }
-    for length in [328, 329, 330, 333, 648, 650, 652, 654] {
-        assert_eq!(s.make_in((0, 0), length, &[]), 1);
-    }
-
-    held_in_two_lines(s);
-    held_for_thirteen_bits(s);
-    moves_there_and_back(s);
-    refused_moves(s);
-    false_helds(s);
-    all_reserved(s);
-}
-
-/// Two listed addresses, over their ports, and one that has no line.
-fn held_in_two_lines(s: &mut Script) {
-    let desk_port = Sender { port: 5_354, ..DESK };
-    assert_eq!(s.make_held((20, 0), 9, &[listed(DESK, 1, 3), listed(DESK_2, 1, 2)]), 0);
-    let told = s.ask((20, 0), DESK, 1, &[setup("a", 60), setup("b", 100)]);
-    assert_eq!(told, [granted(1, 60), granted(2, 100)]);
-    // By another port it is another entry; then it is at its limit.
-    assert_eq!(s.ask((20, 0), desk_port, 1, &[setup("a", 60)]), [granted(3, 60)]);
-    assert_eq!(s.helds(), [3, 0, 0]);
-    assert_eq!(s.ask((20, 0), desk_port, 1, &[setup("c", 60)]), [FULL]);
-    assert_eq!(s.ask((20, 0), DESK_2, 1, &[setup("a", 60)]), [granted(4, 60)]);
-    let told = s.ask((20, 0), PANEL, 1, &["a", "b", "c", "d", "e"].map(|name| setup(name, 90)));
-    assert_eq!(told[3..], [granted(8, 90), FULL]);
-    assert_eq!(s.helds(), [3, 1, 0]);
-    s.dump();
-    // Entries of both run out in a call of the third, and in the same call one of them asks again.
-    assert_eq!(s.ask((20, 60), PANEL, 1, &[setup("a", 90)]), [granted(5, 30)]);
-    assert_eq!(s.helds(), [1, 0, 0]);
-    s.dump();
-    let told = s.ask((20, 61), DESK_2, 1, &["a", "b", "c"].map(|name| setup(name, 60)));
-    assert_eq!(told, [granted(1, 60), granted(3, 60), FULL]);
-    assert_eq!(s.helds(), [1, 2, 0]);
-    assert_eq!(s.ask((20, 100), DESK, 9, &[setup("d", 60)]), [granted(9, 60)]);
-    assert_eq!(s.helds(), [1, 2, 0]);
-    // A refused call leaves it.
-    assert_eq!(s.tick((1_024, 0)), (2, 0));
-    assert_eq!(s.tick((20, 160)), (0, 3));
-    assert_eq!(s.helds(), [0, 0, 0]);
-}
-
-/// Weeks of thirteen bits: the lines start behind a clock of 13 bytes.
-fn held_for_thirteen_bits(s: &mut Script) {
-    assert_eq!(s.make_wide_held((8_191, 604_790), 2, &[listed(DESK, 1, 2)]), 0);
-    assert_eq!(s.table()[..14], [9, 0, 0, 0, 1, 0x27, 0x4F, 0xFF, 0xF6, 0, 0, 0, 0, 0x0B]);
-    let asked = [setup("a", 60), setup("b", 61)];
-    assert_eq!(s.ask((8_191, 604_799), DESK, 1, &asked), [granted(1, 60), granted(2, 61)]);
-    assert_eq!(s.helds(), [2]);
-    assert_eq!(s.ask((0, 58), DESK, 1, &[response("b", 2, 61)]), [granted(2, 2)]);
-    s.dump();
-    assert_eq!(s.tick((0, 59)), (0, 1));
-    assert_eq!(s.helds(), [1]);
-    assert_eq!(s.tick((8_192, 0)), (2, 0));
-    assert_eq!(s.ask((0, 59), DESK, 1, &[end("b", 2)]), [granted(2, 0)]);
-    assert_eq!(s.helds(), [0]);
-    // A table for the other weeks, four bytes shorter.
-    assert_eq!(s.make_held((1_024, 0), 2, &[]), 2);
-    assert_eq!(s.tick((0, 59)), (1, 0));
-    // The same, made with plain lines and moved.
-    assert_eq!(s.make_wide((8_191, 604_799), 2, &[listed(DESK, 1, 2)]), 0);
-    assert_eq!(s.ask((8_191, 604_799), DESK, 1, &[setup("a", 60)]), [granted(1, 60)]);
-    s.moved(Way::ToHeld);
-    assert_eq!((s.length, s.helds()), (973, [1]));
-    assert_eq!(s.ask((0, 0), DESK, 1, &[response("a", 1, 60)]), [granted(1, 59)]);
-    s.moved(Way::FromHeld);
-    assert_eq!(s.tick((0, 58)), (0, 0));
-    assert_eq!(s.tick((0, 59)), (0, 1));
-}
-
-/// Tables with entries moved to lines with held and back: clock, roster and slots stay, no time passes,
-/// and calls go on.
-fn moves_there_and_back(s: &mut Script) {
-    assert_eq!(s.make((1_023, 604_700), 4, &[listed(DESK, 1, 2), listed(PANEL, 0, 4)]), 0);
-    assert_eq!(s.ask((1_023, 604_750), DESK, 1, &[setup("a", 3_600)]), [granted(1, 3_600)]);
-    let told = s.ask((1_023, 604_760), PANEL, 2, &[setup("a", 60), setup("b", 100)]);
-    assert_eq!(told, [granted(2, 60), granted(3, 100)]);
-    assert_eq!(s.ask((1_023, 604_770), DESK_2, 4, &[setup("a", 100)]), [granted(4, 100)]);
-    // The second slot is free, the third holds an established entry.
-    let told = s.ask((0, 10), PANEL, 5, &[response("a", 2, 60), response("b", 3, 100)]);
-    assert_eq!(told, [granted(2, 10), granted(3, 50)]);
-    assert_eq!(s.tick((0, 20)), (0, 1));
-    s.dump();
-    let old = s.table().to_vec();
-    s.moved(Way::ToHeld);
-    assert_eq!((s.length, s.helds()), (329 + 320 * 4, [1, 1, 0]));
-    assert_eq!(s.clock(), ((0, 20), 120));
-    s.dump();
-    let new = s.table().to_vec();
-    // There and back, and there again, gives the same bytes.
-    s.moved(Way::FromHeld);
-    assert!(s.table() == old);
-    s.moved(Way::ToHeld);
-    assert!(s.table() == new);
-    // The calls go on: what was told is right, leases run on, and the free slot is taken.
-    assert_eq!(s.ask((0, 30), DESK, 5, &[response("a", 1, 3_600)]), [granted(1, 3_520)]);
-    let told = s.ask((0, 30), PANEL, 5, &[refresh("b", 3, 60), setup("c", 60)]);
-    assert_eq!(told, [granted(3, 60), granted(5, 60)]);
-    assert_eq!(s.helds(), [1, 2, 0]);
-    assert_eq!(s.ask((0, 40), DESK_2, 6, &[setup("b", 60)]), [FULL]);
-    s.dump();
-    s.moved(Way::FromHeld);
-    s.dump();
-    assert_eq!(s.ask((0, 40), DESK_2, 6, &[setup("b", 60)]), [FULL]);
-    assert_eq!(s.tick((0, 69)), (0, 0));
-    assert_eq!(s.tick((0, 70)), (0, 1));
-    let told = s.ask((0, 90), PANEL, 7, &[setup("c", 60), end("b", 3)]);
-    assert_eq!(told, [granted(7, 60), no_such(3)]);
-    s.moved(Way::ToHeld);
-    assert_eq!(s.helds(), [1, 1, 0]);
-    assert_eq!(s.ask((0, 91), DESK, 8, &[end("a", 1)]), [granted(1, 0)]);
-    assert_eq!(s.tick((0, 150)), (0, 1));
-    assert_eq!(s.helds(), [0, 0, 0]);
-    // A table made anew where a moved one is.
-    assert_eq!(s.make_held((5, 0), 4, &[listed(PANEL, 0, 4)]), 0);
-    s.moved(Way::FromHeld);
-    s.moved(Way::ToHeld);
-    assert_eq!(s.tick((5, 1)), (0, 0));
-}
-
-/// Moves refused with 1: a wrong length, the form that is there already, an unsound source. The target
-/// keeps every byte, and so does the source.
-fn refused_moves(s: &mut Script) {
-    let roster: Vec<_> = (0..3).map(|at| listed(Sender { low: at, ..DESK }, 1, 1)).collect();
-    for (plain, counted) in [(313, 329), (317, 333)] {
-        let [short, long] = [plain, counted].map(|head| head + 320 * 3);
-        for (way, length, right) in [(Way::ToHeld, short, long), (Way::FromHeld, long, short)] {
-            assert_eq!(s.make_in((1, 0), length, &roster.concat()), 0);
-            assert_eq!(s.ask((1, 0), DESK_2, 1, &[setup("a", 60)]), [FULL]);
-            let from = Sender { low: 2, ..DESK };
-            assert_eq!(s.ask((1, 0), from, 1, &[setup("a", 60)]), [granted(1, 60)]);
-            for wrong in [0, 1, right - 1, right + 1, right - 4, right + 4, length, right + 320] {
-                assert_eq!(s.move_to(way, wrong), 1);
-            }
-            // It has no form that the other way leaves.
-            let other = if way == Way::ToHeld { Way::FromHeld } else { Way::ToHeld };
-            for wrong in [length, right, 2 * length - right] {
-                assert_eq!(s.move_to(other, wrong), 1);
-            }
-            // Lent but for its last slot: the shares are too many.
-            assert_eq!(s.make_in((8_192, 0), length - 320, &[]), 2);
-            assert_eq!(s.tick((1, 1)), (1, 0));
-            assert_eq!(s.move_to(way, right - 320), 1);
-            assert_eq!(s.move_to(other, right - 320), 1);
-            // Lent at the length of the other form, or of the other weeks.
-            let four = if plain == 313 { length + 4 } else { length - 4 };
-            for lent in [right, four] {
-                assert_eq!(s.make_in((8_192, 0), lent, &[]), 2);
-                assert_eq!(s.tick((1, 1)), (1, 0));
-                for (way, length) in [(Way::ToHeld, lent + 16), (Way::FromHeld, lent - 16)] {
-                    assert_eq!(s.move_to(way, length), 1);
-                }
-            }
-            // At its own length it is as it was.
-            assert_eq!(s.make_in((8_192, 0), length, &[]), 2);
-            assert_eq!(s.ask((1, 1), from, 1, &[response("a", 1, 60)]), [granted(1, 59)]);
-            assert_eq!(s.move_to(way, right), 0);
-            assert_eq!(s.tick((1, 60)), (0, 1));
-        }
-    }
-}
-
-/// Held that is no count over the slots. No call writes such a table, but one that calls have written
-/// may be lent with a slot less, or with one more that an earlier table has left.
-fn false_helds(s: &mut Script) {
-    let sound_but_for_held = |s: &mut Script, held: u8, right: u8| {
-        let mut table = s.table().to_vec();
-        let line = shape_of(table.len()).expect("the length of a table").0.clock_record();
-        assert_eq!(table[line + 19], held);
-        table[line + 19] = right;
-        assert_eq!(oracle::tick(0, 0, &mut table).number, 0);
-        // Refused with 1, before any other number.
-        assert_eq!(s.tick((0, 0)), (1, 0));
-        assert_eq!(s.tick((8_192, 0)), (1, 0));
-        assert_eq!(s.refused((0, 0), &W11), 1);
-        assert_eq!(s.refused((8_192, 0), &[]), 1);
-        assert_eq!(s.move_to(Way::FromHeld, s.length - 16), 1);
-        s.dump();
-    };
-    for head in [329, 333] {
-        let [one, two] = [1, 2].map(|slots| head + 320 * slots);
-        let roster = listed(DESK, 0, 2);
-        assert_eq!(s.make_in((0, 0), two, &roster), 0);
-        let asked = [setup("a", 60), setup("b", 60)];
-        assert_eq!(s.ask((0, 0), DESK, 1, &asked), [granted(1, 60), granted(2, 60)]);
-        // One too many.
-        assert_eq!(s.make_in((8_192, 0), one, &[]), 2);
-        sound_but_for_held(s, 2, 1);
-        // One too few: a table of one slot made anew, and behind it what the second slot held.
-        assert_eq!(s.make_in((0, 0), one, &roster), 0);
-        assert_eq!(s.make_in((8_192, 0), two, &[]), 2);
-        sound_but_for_held(s, 0, 1);
-        // At its own length it is sound.
-        assert_eq!(s.make_in((8_192, 0), one, &[]), 2);
-        assert_eq!(s.tick((0, 1)), (0, 0));
-    }
-}
-
-/// 64 slots and 16 lines whose shares take all of them, each half held: eight questions are told full,
-/// with held and without.
-fn all_reserved(s: &mut Script) {
-    let from = |at| Sender { low: at, ..DESK };
-    let roster: Vec<_> = (0..16).map(|at| listed(from(at), 4, 4)).collect();
-    assert_eq!(s.make_wide_held((8_000, 0), 64, &roster), 0);
-    assert_eq!(s.length, BUFFER);
-    for at in 0..16 {
-        let told = s.ask((8_000, 1), from(at), 1, &["a", "b"].map(|name| setup(name, 600)));
-        assert_eq!(told, [granted(2 * at + 1, 600), granted(2 * at + 2, 600)]);
-    }
-    assert_eq!(s.helds(), [2; 16]);
-    let eight = || ["a", "b", "c", "d", "e", "f", "g", "h"].map(|name| setup(name, 60));
-    let full = [FULL, FULL, FULL, FULL, FULL, FULL, FULL, FULL];
-    assert_eq!(s.ask((8_000, 2), PANEL, 1, &eight()), full);
-    s.moved(Way::FromHeld);
-    assert_eq!(s.ask((8_000, 2), PANEL, 1, &eight()), full);
-    s.moved(Way::ToHeld);
-    // Below its share a listed address is granted the two that are kept for it.
-    let told = s.ask((8_000, 3), from(15), 33, &["a", "b", "c", "d", "e"].map(|n| setup(n, 60)));
-    assert_eq!(told[..2], [granted(31, 598), granted(32, 598)]);
-    assert_eq!(told[2..], [granted(33, 60), granted(34, 60), FULL]);
-    assert_eq!(s.helds::<16>()[14..], [2, 4]);
-    assert_eq!(s.tick((8_000, 63)), (0, 2));
-    assert_eq!(s.helds(), [2; 16]);
-    assert_eq!(s.tick((8_000, 601)), (0, 32));
-    assert_eq!(s.helds(), [0; 16]);
-}
-
 type List = (&'static str, fn(&mut Script));
 
 /// The lists in their order.
-const LISTS: [List; 29] = [
+const LISTS: [List; 28] = [
     ("nothing made", nothing_made),
     ("W11", w11),
     ("handshake", handshake),
@@ -1720,7 +1405,6 @@ const LISTS: [List; 29] = [
     ("made again", made_again),
     ("sixty-four slots", sixty_four_slots),
     ("thirteen-bit weeks", thirteen_bit_weeks),
-    ("held beside the roster", held_beside_the_roster),
 ];
 
 /// Runs every list, one after the other on one buffer, and says which lines are whose.

@@ -1,25 +1,18 @@
 //! Table bytes edited: kept sound, or damaged field by field.
 
 use super::world::{name, name_of, World};
-use super::Layouts;
+use super::Widths;
 use crate::clock::Weeks;
 use crate::random::Random;
 use crate::script::Step;
-use crate::table::{field, shape_of, Layout, Lines, LINES, SLOT_RECORD};
-
-/// The place of held in its line.
-const HELD: usize = 19;
+use crate::table::{clock_record, field, head, shape_of, LINES, LINE_RECORD, SLOT_RECORD};
 
 fn number(bytes: &[u8]) -> u64 {
     bytes.iter().fold(0, |number, &byte| number << 8 | u64::from(byte))
 }
 
-fn layout(table: &[u8]) -> Layout {
-    shape_of(table.len()).expect("the length of a table").0
-}
-
 fn weeks(table: &[u8]) -> Weeks {
-    layout(table).weeks
+    shape_of(table.len()).expect("the length of a table").0
 }
 
 /// Where the running count is.
@@ -33,18 +26,7 @@ fn count(table: &[u8]) -> u32 {
 
 /// Where the roster is.
 fn lines_at(table: &[u8]) -> usize {
-    layout(table).clock_record()
-}
-
-/// Where its lines are.
-fn lines(table: &[u8]) -> [usize; LINES] {
-    std::array::from_fn(|line| lines_at(table) + line * layout(table).lines.record())
-}
-
-/// Where the listed ones are.
-fn listed(table: &[u8]) -> Vec<usize> {
-    let kind = layout(table).lines.listed_kind();
-    lines(table).into_iter().take_while(|&line| table[line] == kind).collect()
+    clock_record(weeks(table))
 }
 
 fn edit(at: usize, bytes: &[u8]) -> Step {
@@ -61,35 +43,12 @@ fn place_edit(table: &[u8], place: u64) -> Step {
 
 /// Where the slots are.
 fn slots(table: &[u8]) -> Vec<usize> {
-    (layout(table).head()..table.len()).step_by(SLOT_RECORD).collect()
+    (head(weeks(table))..table.len()).step_by(SLOT_RECORD).collect()
 }
 
 /// Where the slots are that hold entries.
 fn entries(table: &[u8]) -> Vec<usize> {
     slots(table).into_iter().filter(|&at| table[at] == 5 || table[at] == 6).collect()
-}
-
-/// The table with one edit made.
-fn edited(table: &[u8], step: &Step) -> Vec<u8> {
-    let mut table = table.to_vec();
-    if let Step::Edit { at, bytes } = step {
-        table[*at..*at + bytes.len()].copy_from_slice(bytes);
-    }
-    table
-}
-
-/// Where held is not what the slots say, and what it should be; nowhere in a table of plain lines.
-fn wrong_helds(table: &[u8]) -> Vec<(usize, u8)> {
-    if layout(table).lines == Lines::Plain {
-        return Vec::new();
-    }
-    let entries = entries(table);
-    let right = |line: usize| {
-        let address = &table[line + 1..line + 17];
-        entries.iter().filter(|&at| &table[at + field::ADDRESS..][..16] == address).count() as u8
-    };
-    let helds = listed(table).into_iter().map(|line| (line + HELD, right(line)));
-    helds.filter(|&(at, right)| table[at] != right).collect()
 }
 
 /// Edits that leave a sound table sound, or nearly always do.
@@ -143,10 +102,7 @@ pub fn sound_edits(random: &mut Random, world: &World, table: &[u8]) -> Vec<Step
         (9, Some(at)) => {
             let (port, address) = (random.pick(&world.ports), random.pick(&world.addresses));
             steps.push(edit(at + field::PORT, &port.to_be_bytes()));
-            let moved = edit(at + field::ADDRESS, address);
-            let helds = wrong_helds(&edited(table, &moved));
-            steps.push(moved);
-            steps.extend(helds.into_iter().map(|(at, right)| edit(at, &[right])));
+            steps.push(edit(at + field::ADDRESS, address));
         }
         (10, Some(at)) => {
             let name = random
@@ -170,25 +126,8 @@ pub fn sound_edits(random: &mut Random, world: &World, table: &[u8]) -> Vec<Step
     steps
 }
 
-/// One edit in one field, or the table at another length; now and then it is still sound. Where slots
-/// are damaged held is as it was, or the count over the damaged ones.
+/// One edit in one field, or the table at another length; now and then it is still sound.
 pub fn damage(random: &mut Random, world: &World, table: &[u8]) -> Step {
-    let step = one_damage(random, world, table);
-    match step {
-        Step::Edit { at, .. } if at >= layout(table).head() && random.percent(50) => {
-            let mut bytes = edited(table, &step);
-            let helds = wrong_helds(&bytes);
-            if helds.is_empty() {
-                return step;
-            }
-            helds.into_iter().for_each(|(at, right)| bytes[at] = right);
-            Step::Table { bytes }
-        }
-        _ => step,
-    }
-}
-
-fn one_damage(random: &mut Random, world: &World, table: &[u8]) -> Step {
     let entries = entries(table);
     let free: Vec<usize> = slots(table).into_iter().filter(|&at| table[at] == 4).collect();
     match random.below(20) {
@@ -252,50 +191,34 @@ fn place_damage(random: &mut Random, table: &[u8]) -> Step {
 }
 
 /// The table's bytes at a length near its own: with a place of the other width under its own kind, or
-/// with lines of the other width under their own kinds; or with four bytes more or less at the end, or
-/// sixteen, or one.
+/// with four bytes more or less at the end, or with one.
 fn other_length(random: &mut Random, world: &World, table: &[u8]) -> Step {
-    let Layout { weeks, lines } = layout(table);
     let (clock, rest) = table.split_at(lines_at(table));
-    let (roster, slots) = rest.split_at(LINES * lines.record());
-    let mut bytes = match (random.below(8), weeks, lines) {
-        (0, Weeks::Ten, _) => [&[clock[0], 0, 0, 0, 0], &clock[1..], rest].concat(),
-        (0, Weeks::Thirteen, _) => [&clock[..1], &clock[5..], rest].concat(),
-        (1, Weeks::Ten, _) => [table, &[0; 4]].concat(),
-        (1, Weeks::Thirteen, _) => table[..table.len() - 4].to_vec(),
-        (2, _, Lines::Plain) => [table, &[0; 16]].concat(),
-        (2, _, Lines::Counted) => table[..table.len() - 16].to_vec(),
-        (3, _, _) => table[..table.len() - 1].to_vec(),
-        (4, _, _) => [table, &[0]].concat(),
-        (_, _, Lines::Plain) => {
-            let lines = roster.chunks(HELD).map(|line| [line, &[0]].concat());
-            [clock, &lines.collect::<Vec<_>>().concat(), slots].concat()
-        }
-        (_, _, Lines::Counted) => {
-            let lines = roster.chunks(HELD + 1).map(|line| &line[..HELD]);
-            [clock, &lines.collect::<Vec<_>>().concat(), slots].concat()
-        }
+    let mut bytes = match (random.below(4), weeks(table)) {
+        (0, Weeks::Ten) => [&[clock[0], 0, 0, 0, 0], &clock[1..], rest].concat(),
+        (0, Weeks::Thirteen) => [&clock[..1], &clock[5..], rest].concat(),
+        (1, Weeks::Ten) => [table, &[0; 4]].concat(),
+        (1, Weeks::Thirteen) => table[..table.len() - 4].to_vec(),
+        (2, _) => table[..table.len() - 1].to_vec(),
+        _ => [table, &[0]].concat(),
     };
-    if world.layouts == Layouts::Plain && super::is_counted(bytes.len()) {
+    if world.widths == Widths::TenBits && super::is_wide(bytes.len()) {
         bytes.pop();
     }
     Step::Table { bytes }
 }
 
 fn line_damage(random: &mut Random, table: &[u8]) -> Step {
-    let form = layout(table).lines;
-    let (lines, listed) = (lines(table), listed(table));
-    if form == Lines::Counted && random.percent(50) {
-        return held_damage(random, table, &lines, &listed);
-    }
-    let any = *random.pick(&lines);
-    let at = if !listed.is_empty() && random.percent(70) { *random.pick(&listed) } else { any };
+    let line_at = |line| lines_at(table) + line * LINE_RECORD;
+    let listed = (0..LINES).take_while(|&line| table[line_at(line)] == 3).count();
+    let any = random.below(LINES);
+    let line = if listed > 0 && random.percent(70) { random.below(listed) } else { any };
+    let at = line_at(line);
     let (share, limit) = (table[at + 17], table[at + 18]);
-    let other = *listed.get(random.below(listed.len().max(1))).unwrap_or(&lines[0]);
-    match random.below(11) {
-        0 => edit(at, &[*random.pick(&[0, 1, 2, 3, 4, 0x83, 0x0A, 0x0B, 0x0C, 0x0D])]),
-        1 if table[at] == form.unused_kind() => edit(at, &[form.listed_kind()]),
-        1 => edit(at, &[form.unused_kind()]),
+    let other = line_at(random.below(listed.max(1)));
+    match random.below(10) {
+        0 => edit(at, &[*random.pick(&[0, 1, 2, 3, 4, 0x83])]),
+        1 => edit(at, &[if table[at] == 2 { 3 } else { 2 }]),
         2 => edit(at + 1, &table[other + 1..other + 17]),
         3 => edit(at + 17, &[share.wrapping_add(1)]),
         4 => edit(at + 17, &[*random.pick(&[0, 1, 4, 64, 255])]),
@@ -304,63 +227,14 @@ fn line_damage(random: &mut Random, table: &[u8]) -> Step {
         7 => edit(at + 18, &[share.wrapping_sub(1)]),
         8 => {
             // A whole listed line put in, with unused ones before it or not.
-            let mut record = vec![0x55; form.record()];
-            record[0] = form.listed_kind();
+            let mut record = [0x55; LINE_RECORD];
+            record[0] = 3;
             [record[17], record[18]] =
                 *random.pick(&[[0, 1], [0, 64], [1, 1], [1, 65], [2, 1], [0, 0]]);
-            record[19..].fill(0);
-            let first_unused = lines[listed.len().min(LINES - 1)];
-            edit(if random.percent(60) { first_unused } else { any }, &record)
+            let to = if random.percent(60) { listed.min(LINES - 1) } else { any };
+            edit(line_at(to), &record)
         }
-        9 => kinds_of_other_form(random, table, at),
-        _ => edit(at + 1 + random.below(form.record() - 1), &[1 << random.below(8)]),
-    }
-}
-
-/// This line's kind, or that of every line, as in a table with lines of the other form.
-fn kinds_of_other_form(random: &mut Random, table: &[u8], at: usize) -> Step {
-    let (form, other) = (layout(table).lines, layout(table).lines.other());
-    let of_other = |kind| match kind {
-        kind if kind == form.listed_kind() => other.listed_kind(),
-        _ => other.unused_kind(),
-    };
-    if random.percent(50) {
-        return edit(at, &[of_other(table[at])]);
-    }
-    let (start, end) = (lines_at(table), layout(table).head());
-    let mut roster = table[start..end].to_vec();
-    roster.chunks_mut(form.record()).for_each(|line| line[0] = of_other(line[0]));
-    edit(start, &roster)
-}
-
-/// Held one off, or another number; those of two lines exchanged; held in an unused line.
-fn held_damage(random: &mut Random, table: &[u8], lines: &[usize], listed: &[usize]) -> Step {
-    let unused = &lines[listed.len()..];
-    if listed.is_empty() || !unused.is_empty() && random.percent(10) {
-        return edit(random.pick(unused) + HELD, &[*random.pick(&[1, 2, 64, 255])]);
-    }
-    // The last one as often as the others together.
-    let last = listed[listed.len() - 1];
-    let line = if random.percent(50) { last } else { *random.pick(listed) };
-    let held = table[line + HELD];
-    match random.below(8) {
-        0..2 => edit(line + HELD, &[held.wrapping_add(1)]),
-        2..4 => edit(line + HELD, &[held.wrapping_sub(1)]),
-        4 => edit(line + HELD, &[*random.pick(&[0, 1, table[line + 17], table[line + 18], 255])]),
-        5 => kinds_of_other_form(random, table, line),
-        _ => {
-            let differs = |&other: &usize| table[other + HELD] != held;
-            let others: Vec<usize> = listed.iter().copied().filter(differs).collect();
-            if others.is_empty() {
-                return edit(line + HELD, &[held ^ 1]);
-            }
-            let other = *random.pick(&others);
-            let (first, last) = (line.min(other) + HELD, line.max(other) + HELD);
-            let mut bytes = table[first..=last].to_vec();
-            let end = bytes.len() - 1;
-            bytes.swap(0, end);
-            edit(first, &bytes)
-        }
+        _ => edit(at + 1 + random.below(18), &[1 << random.below(8)]),
     }
 }
 

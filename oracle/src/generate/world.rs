@@ -1,19 +1,18 @@
 //! The few addresses, ports, questions and numbers that a list draws from, so
 //! that its calls meet each other.
 
-use super::Layouts;
+use super::Widths;
 use crate::clock::Weeks;
 use crate::random::Random;
-use crate::table::{Layout, Lines};
+use crate::table;
 use crate::tally::{From, Line, Tally};
 
 pub const LEASES: [u32; 14] =
     [0, 1, 59, 60, 61, 90, 100, 3_600, 7_199, 7_200, 7_201, 65_536 + 60, 0x8000_0000, u32::MAX];
 
 pub struct World {
-    pub layouts: Layouts,
-    /// The layout that the list begins with.
-    pub layout: Layout,
+    pub widths: Widths,
+    pub weeks: Weeks,
     pub addresses: Vec<[u8; 16]>,
     pub ports: Vec<u16>,
     pub names: Vec<Vec<u8>>,
@@ -120,12 +119,8 @@ fn some<T: Clone>(random: &mut Random, from: &[T], count: usize) -> Vec<T> {
 }
 
 impl World {
-    pub fn new(random: &mut Random, layouts: Layouts) -> World {
-        let weeks = *random.pick(&[Weeks::Ten, Weeks::Thirteen]);
-        let lines = match layouts {
-            Layouts::All => *random.pick(&[Lines::Plain, Lines::Counted]),
-            Layouts::Plain => Lines::Plain,
-        };
+    pub fn new(random: &mut Random, widths: Widths) -> World {
+        let wide = widths == Widths::Both && random.percent(45);
         let slots = match random.below(20) {
             0..3 => 1,
             3..14 => 2 + random.below(7),
@@ -153,8 +148,8 @@ impl World {
         let mut names = some(random, &all_names, names_taken);
         names.extend(names_of_every_value(random));
         World {
-            layouts,
-            layout: Layout { weeks, lines },
+            widths,
+            weeks: if wide { Weeks::Thirteen } else { Weeks::Ten },
             addresses: some(random, &addresses, addresses_taken),
             ports: some(random, &[5_353, 5_354, 0, 0xFFFF, 0xE914], 3),
             names,
@@ -167,11 +162,11 @@ impl World {
 
     /// The table's length.
     pub fn length(&self) -> usize {
-        self.layout.length(self.slots)
+        table::head(self.weeks) + self.slots * table::SLOT_RECORD
     }
 
     pub fn cycle(&self) -> i64 {
-        self.layout.weeks.cycle() as i64
+        self.weeks.cycle() as i64
     }
 
     pub fn sender(&self, random: &mut Random) -> From {
@@ -222,16 +217,12 @@ impl World {
         let count = match random.below(10) {
             // Nothing reserved, so that all slots can be taken.
             _ if self.filling && random.percent(40) => 0,
-            // A line for most of those who fill it.
-            _ if self.filling && random.percent(60) => 16,
             0..2 => 0,
             2 => 16,
             _ => random.below(self.addresses.len().min(16) + 1),
         };
         let mut lines = Vec::new();
         let mut left = self.slots;
-        // A slot for each, so that each comes to hold one.
-        let one_each = self.filling && count <= left && random.percent(70);
         for at in 0..count {
             let address = self.addresses.get(at).copied().unwrap_or_else(|| {
                 let mut address = [0x77; 16];
@@ -246,7 +237,6 @@ impl World {
             };
             let most = limit.min(left);
             let share = match random.below(4) {
-                _ if one_each => 1,
                 0 => 0,
                 1 => most,
                 _ => random.below(most.min(4) + 1),
@@ -278,8 +268,8 @@ impl World {
         let lines = bytes.len() / 19;
         let line = 19 * random.below(lines);
         let limit = bytes[line + 18];
-        match random.below(13) {
-            0 => bytes[line] = *random.pick(&[0, 1, 2, 4, 5, 0x83, 0x0B, 0x0D]),
+        match random.below(12) {
+            0 => bytes[line] = *random.pick(&[0, 1, 2, 4, 5, 0x83]),
             1 => bytes[line + 17] = limit.wrapping_add(1),
             2 => bytes[line + 17] = *random.pick(&[65, 128, 255]),
             3 => bytes[line + 17..line + 19].fill(0),
@@ -301,12 +291,6 @@ impl World {
             8 => bytes.push(3),
             9 => bytes.truncate(1 + random.below(18)),
             10 => {
-                // The lines that a table with held has.
-                let held = if random.percent(50) { &[0][..] } else { &[] };
-                let lines = bytes.chunks(19).map(|line| [&[0x0B], &line[1..], held].concat());
-                bytes = lines.collect::<Vec<_>>().concat();
-            }
-            11 => {
                 bytes.truncate(16 * 19);
                 while bytes.len() < 17 * 19 {
                     let at = bytes.len() as u8;

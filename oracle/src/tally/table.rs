@@ -1,6 +1,5 @@
 //! A table's bytes read as a tally: its clock, roster and entries, ages
-//! included and slot places aside; nothing if the table is unsound. Held is no
-//! part of a tally: it is judged here, by the holdings. And a table moved.
+//! included and slot places aside; nothing if the table is unsound.
 
 use super::{by_length, roster_is_right, Holding, Line, Question, Tally};
 
@@ -19,18 +18,17 @@ fn address(bytes: &[u8]) -> [u8; 16] {
 }
 
 pub fn read(bytes: &[u8]) -> Option<Tally> {
-    let (weeks, slots, line) = by_length(bytes.len())?;
+    let (weeks, slots) = by_length(bytes.len())?;
     // The clock's kind, and the bytes of its place; 4 of the count follow.
     let (kind, place_bytes) = if weeks == 1_024 { (1, 4) } else { (9, 8) };
     let (clock, rest) = bytes.split_at(1 + place_bytes + 4);
-    let (lines, entries) = rest.split_at(16 * line);
+    let (lines, entries) = rest.split_at(16 * 19);
     let (place, count) = clock[1..].split_at(place_bytes);
     let (place, count) = (number(place), number(count));
     if clock[0] != kind || place > weeks as u64 * 604_800 - 1 {
         return None;
     }
-    let (roster, helds) = roster(lines, line)?;
-    let (place, holdings) = (place as i64, Vec::new());
+    let (place, roster, holdings) = (place as i64, roster(lines)?, Vec::new());
     let mut tally = Tally { weeks, place, count, slots, roster, holdings };
     if !roster_is_right(&tally.roster, slots) {
         return None;
@@ -42,70 +40,25 @@ pub fn read(bytes: &[u8]) -> Option<Tally> {
             _ => return None,
         }
     }
-    let counts = tally.roster.iter().map(|line| tally.held(line.address));
-    let helds_right = counts.zip(helds).all(|(count, held)| count == held);
-    (helds_right && together_sound(&tally)).then_some(tally)
+    together_sound(&tally).then_some(tally)
 }
 
-/// Listed lines, then unused ones, which are all zero; and, of lines with held, what each listed one
-/// says.
-fn roster(lines: &[u8], bytes: usize) -> Option<(Vec<Line>, Vec<usize>)> {
-    let (listed, unused) = if bytes == 20 { (11, 13) } else { (3, 2) };
-    let (mut roster, mut helds) = (Vec::new(), Vec::new());
+/// Listed lines, then unused ones, which are all zero.
+fn roster(lines: &[u8]) -> Option<Vec<Line>> {
+    let mut roster = Vec::new();
     let mut unused_seen = false;
-    for line in lines.chunks(bytes) {
-        if line[0] == unused && zero(&line[1..]) {
-            unused_seen = true;
-        } else if line[0] == listed && !unused_seen {
-            roster.push(Line {
+    for line in lines.chunks(19) {
+        match line[0] {
+            2 if zero(&line[1..]) => unused_seen = true,
+            3 if !unused_seen => roster.push(Line {
                 address: address(&line[1..17]),
                 share: line[17] as usize,
                 limit: line[18] as usize,
-            });
-            helds.extend(line[19..].iter().map(|&held| held as usize));
-        } else {
-            return None;
+            }),
+            _ => return None,
         }
     }
-    Some((roster, helds))
-}
-
-/// A sound table with the lines' other form.
-pub fn other_form(source: &[u8]) -> Option<Vec<u8>> {
-    match by_length(source.len())? {
-        (_, _, 19) => moved(true, source, source.len() + 16),
-        _ => moved(false, source, source.len() - 16),
-    }
-}
-
-/// A move, judged by reading its source: what the target's bytes become, or nothing if it is refused.
-/// Clock and slots are the source's bytes; a line keeps address, share and limit, and held is the count
-/// of the source's holdings.
-pub fn moved(to_held: bool, source: &[u8], target_length: usize) -> Option<Vec<u8>> {
-    let tally = read(source)?;
-    let (_, slots, line) = by_length(source.len())?;
-    let right_length = if to_held { source.len() + 16 } else { source.len().checked_sub(16)? };
-    if (line == 20) == to_held || target_length != right_length {
-        return None;
-    }
-    let (head, slots) = source.split_at(source.len() - 320 * slots);
-    let (clock, lines) = head.split_at(head.len() - 16 * line);
-    let mut bytes = clock.to_vec();
-    for line in lines.chunks(line) {
-        bytes.push(match line[0] {
-            2 => 13,
-            3 => 11,
-            11 => 3,
-            _ => 2,
-        });
-        bytes.extend(&line[1..19]);
-        if to_held {
-            let listed = line[0] == 3;
-            bytes.push(if listed { tally.held(address(&line[1..17])) as u8 } else { 0 });
-        }
-    }
-    bytes.extend(slots);
-    Some(bytes)
+    Some(roster)
 }
 
 fn holding(record: &[u8], count: u64) -> Option<Holding> {

@@ -1,12 +1,12 @@
 //! Variants that do something around the oracle's calls.
 
 use super::Named;
-use crate::calls::{self, Served, Ticked, Way};
+use crate::calls::{self, Served, Ticked};
 use crate::clock::Weeks;
-use crate::generate::Layouts;
+use crate::generate::Widths;
 use crate::rules::{Law, Rules};
 use crate::server::{Oracle, Server};
-use crate::table::{shape_of, Layout, Lines};
+use crate::table::{self, head, shape_of};
 
 /// A datagram with all that is lent with it.
 struct Call<'a> {
@@ -45,24 +45,13 @@ struct Around {
     make: fn(u32, u32, &mut [u8], &[u8]) -> u32,
     tick: fn(u32, u32, &mut [u8]) -> Ticked,
     serve: fn(&Call, &mut [u8], &mut [u8]) -> Served,
-    /// One way alone is changed.
-    changed: Way,
-    move_table: Move,
 }
-
-type Move = fn(Way, &[u8], &mut [u8]) -> u32;
 
 const UNCHANGED: Around = Around {
     make: calls::make,
     tick: calls::tick,
     serve: |call, table, reply| call.serve(table, reply),
-    changed: Way::ToHeld,
-    move_table: right_move,
 };
-
-fn right_move(way: Way, source: &[u8], table: &mut [u8]) -> u32 {
-    Oracle.move_table(way, source, table)
-}
 
 impl Server for Around {
     fn make(&self, week: u32, second: u32, table: &mut [u8], roster: &[u8]) -> u32 {
@@ -86,11 +75,6 @@ impl Server for Around {
         reply: &mut [u8],
     ) -> Served {
         (self.serve)(&Call { week, second, high, low, port, random, datagram }, table, reply)
-    }
-
-    fn move_table(&self, way: Way, source: &[u8], table: &mut [u8]) -> u32 {
-        let call = if way == self.changed { self.move_table } else { right_move };
-        call(way, source, table)
     }
 }
 
@@ -130,26 +114,8 @@ fn with_options(
 
 /// Where the slots of a table are; none if its length is wrong.
 fn slots(table: &[u8]) -> impl Iterator<Item = usize> {
-    let start = shape_of(table.len()).map_or(table.len(), |(layout, _)| layout.head());
+    let start = shape_of(table.len()).map_or(table.len(), |(weeks, _)| head(weeks));
     (start..table.len()).step_by(320)
-}
-
-/// The lines of a table; none if its length is wrong.
-fn lines(table: &mut [u8]) -> impl Iterator<Item = &mut [u8]> {
-    let (lines, record) = shape_of(table.len()).map_or((0..0, 1), |(layout, _)| {
-        (layout.clock_record()..layout.head(), layout.lines.record())
-    });
-    table[lines].chunks_mut(record)
-}
-
-/// A table of this length has lines with held.
-fn is_counted(table: &[u8]) -> bool {
-    shape_of(table.len()).is_some_and(|(layout, _)| layout.lines == Lines::Counted)
-}
-
-/// Held of a table's listed lines; nothing of other tables and of unused lines.
-fn helds(table: &mut [u8]) -> impl Iterator<Item = &mut u8> {
-    lines(table).filter(|line| line[0] == 0x0B).filter_map(|line| line.get_mut(19))
 }
 
 /// Free slots, pending and established entries by slot: the kinds of a table's slots.
@@ -163,7 +129,7 @@ fn number(bytes: &[u8]) -> u32 {
 
 /// Where the running count ends and the roster starts.
 fn clock_end(table: &[u8]) -> usize {
-    shape_of(table.len()).map_or(9, |(layout, _)| layout.clock_record())
+    shape_of(table.len()).map_or(9, |(weeks, _)| table::clock_record(weeks))
 }
 
 /// The running count.
@@ -174,7 +140,7 @@ fn count(table: &[u8]) -> u32 {
 
 /// A reading that a table of this length does not take.
 fn is_wrong(week: u32, second: u32, table: &[u8]) -> bool {
-    let weeks = shape_of(table.len()).map_or(Weeks::Ten, |(layout, _)| layout.weeks);
+    let weeks = shape_of(table.len()).map_or(Weeks::Ten, |(weeks, _)| weeks);
     weeks.place(week, second).is_none()
 }
 
@@ -241,234 +207,8 @@ fn copies_the_first(call: &Call, table: &mut [u8], reply: &mut [u8]) -> Served {
     served
 }
 
-/// The table that a right move leaves, if its target were long enough.
-fn moved(way: Way, source: &[u8]) -> Option<Vec<u8>> {
-    let (layout, slots) = shape_of(source.len())?;
-    let mut target = vec![0; layout.other_form().length(slots)];
-    (right_move(way, source, &mut target) == 0).then_some(target)
-}
-
-/// A sound table of either form.
-fn is_sound(table: &[u8]) -> bool {
-    calls::tick(0, 0, &mut table.to_vec()).number == 0
-}
-
-/// Lines of the other form, whatever bytes the records have; held is 0.
-fn moved_unjudged(source: &[u8], target: &mut [u8]) {
-    let (layout, _) = shape_of(source.len()).expect("the length of a table");
-    let (end, head) = (layout.clock_record(), layout.head());
-    let other = layout.lines.other();
-    let mut bytes = source[..end].to_vec();
-    for line in source[end..head].chunks(layout.lines.record()) {
-        let listed = line[0] == layout.lines.listed_kind();
-        bytes.push(if listed { other.listed_kind() } else { other.unused_kind() });
-        bytes.extend(&line[1..19]);
-        bytes.resize(bytes.len() + other.record() - 19, 0);
-    }
-    bytes.extend(&source[head..]);
-    target.copy_from_slice(&bytes);
-}
-
-/// Moves that are wrong, each by either way.
-fn moves() -> Vec<(&'static str, Move)> {
-    vec![
-        ("Restamps", |way, source, table| {
-            let number = right_move(way, source, table);
-            if number == 0 {
-                let now = count(table).to_be_bytes();
-                for at in slots(table).filter(|&at| table[at] != 4).collect::<Vec<_>>() {
-                    table[at + 31..at + 35].copy_from_slice(&now);
-                }
-            }
-            number
-        }),
-        ("TakesItsTargetsForm", |way, source, table| {
-            let number = right_move(way, source, table);
-            let form = shape_of(source.len()).is_some_and(|of| of.0.lines != way.from());
-            if number == 1 && form && table.len() == source.len() && is_sound(source) {
-                table.copy_from_slice(source);
-                return 0;
-            }
-            number
-        }),
-        ("TakesAnyForm", |way, source, table| {
-            // Sixteen bytes more or less are all that is asked of the lengths.
-            let number = right_move(way, source, table);
-            let right = match way {
-                Way::ToHeld => source.len() + 16,
-                Way::FromHeld => source.len().saturating_sub(16),
-            };
-            if number == 1 && table.len() == right && is_sound(source) {
-                let shorter = right.min(source.len());
-                table[..shorter].copy_from_slice(&source[..shorter]);
-                return 0;
-            }
-            number
-        }),
-        ("TakesALongerTarget", |way, source, table| match moved(way, source) {
-            Some(target) if target.len() <= table.len() => {
-                table[..target.len()].copy_from_slice(&target);
-                0
-            }
-            _ => right_move(way, source, table),
-        }),
-        ("TakesOtherWeeks", |way, source, table| {
-            let (Some(target), Some((layout, slots))) = (moved(way, source), shape_of(table.len()))
-            else {
-                return right_move(way, source, table);
-            };
-            let Some((from, of)) =
-                shape_of(source.len()).filter(|(from, _)| from.weeks != layout.weeks)
-            else {
-                return right_move(way, source, table);
-            };
-            if (layout.lines, slots) != (from.lines.other(), of) {
-                return 1;
-            }
-            let clock = match layout.weeks {
-                Weeks::Ten => [&[1], &target[5..13]].concat(),
-                Weeks::Thirteen => [&[9, 0, 0, 0, 0], &target[1..9]].concat(),
-            };
-            table.copy_from_slice(&[&clock, &target[from.clock_record()..]].concat());
-            0
-        }),
-        ("TakesAnUnsoundSource", |way, source, table| {
-            let number = right_move(way, source, table);
-            let fits = shape_of(source.len()).is_some_and(|(layout, slots)| {
-                layout.lines == way.from() && layout.other_form().length(slots) == table.len()
-            });
-            if number == 1 && fits {
-                moved_unjudged(source, table);
-                return 0;
-            }
-            number
-        }),
-        ("RefusalClearsTarget", |way, source, table| {
-            let number = right_move(way, source, table);
-            if number == 1 {
-                table.fill(0);
-            }
-            number
-        }),
-        ("WrongLengthIs8", |way, source, table| {
-            let number = right_move(way, source, table);
-            let wrong_length = number == 1 && moved(way, source).is_some();
-            if wrong_length {
-                8
-            } else {
-                number
-            }
-        }),
-        ("StartsTheCountAnew", |way, source, table| {
-            // Every age is as it was.
-            let number = right_move(way, source, table);
-            if number == 0 {
-                let now = count(table);
-                let end = clock_end(table);
-                table[end - 4..end].fill(0);
-                for at in slots(table).filter(|&at| table[at] != 4).collect::<Vec<_>>() {
-                    let stamp = &mut table[at + 31..at + 35];
-                    stamp.copy_from_slice(&self::number(stamp).wrapping_sub(now).to_be_bytes());
-                }
-            }
-            number
-        }),
-        ("SortsTheRoster", |way, source, table| {
-            let number = right_move(way, source, table);
-            if number == 0 {
-                let mut sorted: Vec<Vec<u8>> = lines(table).map(|line| line.to_vec()).collect();
-                sorted.sort_by_key(|line| (!matches!(line[0], 0x03 | 0x0B), line[1..17].to_vec()));
-                lines(table).zip(sorted).for_each(|(line, sorted)| line.copy_from_slice(&sorted));
-            }
-            number
-        }),
-        ("PacksTheSlots", |way, source, table| {
-            let number = right_move(way, source, table);
-            if number == 0 {
-                let start = slots(table).next().expect("a table has a slot");
-                let mut packed: Vec<Vec<u8>> = table[start..].chunks(320).map(Vec::from).collect();
-                packed.sort_by_key(|slot| slot[0] == 4);
-                table[start..].copy_from_slice(&packed.concat());
-            }
-            number
-        }),
-        ("ForgetsPendingEntries", |way, source, table| {
-            let number = right_move(way, source, table);
-            if number == 0 {
-                for at in slots(table).filter(|&at| table[at] == 5).collect::<Vec<_>>() {
-                    table[at..at + 320].fill(0);
-                    table[at] = 4;
-                }
-            }
-            number
-        }),
-        ("LeavesFreeSlots", |way, source, table| {
-            let before = table.to_vec();
-            let number = right_move(way, source, table);
-            if number == 0 {
-                for at in slots(table).filter(|&at| table[at] == 4).collect::<Vec<_>>() {
-                    table[at + 1..at + 320].copy_from_slice(&before[at + 1..at + 320]);
-                }
-            }
-            number
-        }),
-        ("LeavesUnusedLines", |way, source, table| {
-            let mut before = table.to_vec();
-            let number = right_move(way, source, table);
-            if number == 0 {
-                for (line, before) in lines(table).zip(lines(&mut before)) {
-                    if matches!(line[0], 0x02 | 0x0D) {
-                        line[1..].copy_from_slice(&before[1..]);
-                    }
-                }
-            }
-            number
-        }),
-        ("LeavesTheKinds", |way, source, table| {
-            let number = right_move(way, source, table);
-            if number == 0 {
-                let (layout, _) = shape_of(source.len()).expect("answered, so a table");
-                let kinds =
-                    |line: usize| source[layout.clock_record() + line * layout.lines.record()];
-                lines(table).enumerate().for_each(|(at, line)| line[0] = kinds(at));
-            }
-            number
-        }),
-    ]
-}
-
-/// Moves to held that are wrong in it.
-fn moves_to_held() -> Vec<(&'static str, Move)> {
-    vec![
-        ("ToHeldHeldIsShare", |way, source, table| {
-            let number = right_move(way, source, table);
-            if number == 0 {
-                lines(table).for_each(|line| line[19] = line[17]);
-            }
-            number
-        }),
-        ("ToHeldHeldIsZero", |way, source, table| {
-            let number = right_move(way, source, table);
-            if number == 0 {
-                helds(table).for_each(|held| *held = 0);
-            }
-            number
-        }),
-        ("ToHeldHeldOfTargetKept", |way, source, table| {
-            let mut before = table.to_vec();
-            let number = right_move(way, source, table);
-            if number == 0 {
-                for (line, before) in lines(table).zip(lines(&mut before)) {
-                    line[19] = before[19];
-                }
-            }
-            number
-        }),
-    ]
-}
-
 /// Those that lists on such tables can tell apart.
-pub fn all(layouts: Layouts) -> Vec<Named> {
+pub fn all(widths: Widths) -> Vec<Named> {
     type Serve = fn(&Call, &mut [u8], &mut [u8]) -> Served;
     type Tick = fn(u32, u32, &mut [u8]) -> Ticked;
     type Make = fn(u32, u32, &mut [u8], &[u8]) -> u32;
@@ -924,70 +664,22 @@ pub fn all(layouts: Layouts) -> Vec<Named> {
                 calls::make(week, second, table, roster)
             }
         }),
-        ("MakeTenBitsAtThirteenBitLength", |week, second, table, roster| {
+    ];
+    let thirteen_bits: Vec<(&str, Make)> =
+        vec![("MakeTenBitsAtThirteenBitLength", |week, second, table, roster| {
             // The last four bytes are left over.
             let length = match shape_of(table.len()) {
-                Some((Layout { weeks: Weeks::Thirteen, .. }, _)) => table.len() - 4,
+                Some((Weeks::Thirteen, _)) => table.len() - 4,
                 _ => table.len(),
             };
             calls::make(week, second, &mut table[..length], roster)
-        }),
-    ];
-    let makes_with_held: Vec<(&str, Make)> = vec![
-        ("MakeAllowsNoSlotsWithHeld", |week, second, table, roster| {
-            if [329, 333].contains(&table.len()) {
-                0
-            } else {
-                calls::make(week, second, table, roster)
-            }
-        }),
-        ("MakePlainAtLengthWithHeld", |week, second, table, roster| {
-            // The last sixteen bytes are left over.
-            let length = if is_counted(table) { table.len() - 16 } else { table.len() };
-            calls::make(week, second, &mut table[..length], roster)
-        }),
-        ("MakeTakesLinesOfKind0B", |week, second, table, roster| {
-            let mut lines = roster.to_vec();
-            if is_counted(table) {
-                let kinds = lines.iter_mut().step_by(19);
-                kinds.filter(|kind| **kind == 0x0B).for_each(|kind| *kind = 3);
-            }
-            calls::make(week, second, table, &lines)
-        }),
-        ("MakeTakesLinesWithHeld", |week, second, table, roster| {
-            let number = calls::make(week, second, table, roster);
-            let with_held = |line: &[u8]| line.len() == 20 && line[0] == 0x0B && line[19] == 0;
-            if number != 9 || !is_counted(table) || !roster.chunks(20).all(with_held) {
-                return number;
-            }
-            let lines = roster.chunks(20).map(|line| [&[3], &line[1..19]].concat());
-            calls::make(week, second, table, &lines.collect::<Vec<_>>().concat())
-        }),
-        ("MakeLeavesHeld", |week, second, table, roster| {
-            let mut before = table.to_vec();
-            let number = calls::make(week, second, table, roster);
-            if number == 0 && is_counted(table) {
-                for (line, before) in lines(table).zip(lines(&mut before)) {
-                    line[19] = before[19];
-                }
-            }
-            number
-        }),
-        ("MakeHeldIsShare", |week, second, table, roster| {
-            let number = calls::make(week, second, table, roster);
-            if number == 0 && is_counted(table) {
-                lines(table).for_each(|line| line[19] = line[17]);
-            }
-            number
-        }),
-    ];
+        })];
     let mut all: Vec<Named> = vec![(
         "RefuseAll".into(),
         Box::new(Around {
             make: |_, _, _, _| 1,
             tick: |_, _, _| Ticked { number: 1, freed: 0 },
             serve: |_, _, _| Served { number: 1, length: 0 },
-            ..UNCHANGED
         }),
     )];
     for (name, serve) in serves {
@@ -999,18 +691,9 @@ pub fn all(layouts: Layouts) -> Vec<Named> {
     for (name, make) in makes {
         all.push((name.into(), Box::new(Around { make, ..UNCHANGED })));
     }
-    if layouts == Layouts::All {
-        for (name, make) in makes_with_held {
+    if widths == Widths::Both {
+        for (name, make) in thirteen_bits {
             all.push((name.into(), Box::new(Around { make, ..UNCHANGED })));
-        }
-        for (name, move_table) in moves() {
-            for changed in Way::ALL {
-                let server = Around { changed, move_table, ..UNCHANGED };
-                all.push((format!("{changed:?}{name}"), Box::new(server)));
-            }
-        }
-        for (name, move_table) in moves_to_held() {
-            all.push((name.into(), Box::new(Around { move_table, ..UNCHANGED })));
         }
     }
     all

@@ -1,16 +1,16 @@
 //! Variants with one rule put in another's place, or blind to one fault.
 
 use super::Named;
-use crate::calls::{self, Served, Ticked, Way};
+use crate::calls::{self, Served, Ticked};
 use crate::clock::{Clock, Weeks, SMALL_STEP_BACK};
 use crate::fault::Fault;
-use crate::generate::Layouts;
+use crate::generate::Widths;
 use crate::name::{self, Compared};
 use crate::query::{LlqNumber, LlqOption, Question, Sender};
-use crate::rules::{error, Allowance, Change, Law, Rules, UNLISTED};
+use crate::rules::{error, Allowance, Law, Rules, UNLISTED};
 use crate::server::{Oracle, Server};
-use crate::table::{self, Entry, Lines, Table, LINES};
-use std::cell::{Cell, RefCell};
+use crate::table::{self, Entry, Table};
+use std::cell::Cell;
 use Wrong::*;
 
 macro_rules! wrong {
@@ -176,8 +176,8 @@ wrong! {
     RefreshAnyQuestion
 
     // Shares, limits and the reserve.
-    HoldingsByLowHalf
-    HoldingsByHighHalf
+    HeldByLowHalf
+    HeldByHighHalf
     UnlistedLimitFive
     UnlistedNoLimit
     /// The last of sixteen lines is not looked at.
@@ -192,38 +192,6 @@ wrong! {
     FullOverShare
     /// An address below its share is told "full".
     FullBelowShare
-
-    // Held in the lines, on tables that have it.
-    /// A grant leaves it as it was.
-    HeldLeftByGrants
-    /// An end leaves it as it was.
-    HeldLeftByEnds
-    /// Entries that run out leave it as it was.
-    HeldLeftByRunOuts
-    /// A right response adds one.
-    HeldUpByResponses
-    /// A renewal adds one.
-    HeldUpByRenewals
-    /// A change writes what its address holds by that port.
-    HeldByPort
-    /// Pending entries do not count.
-    HeldOfEstablishedOnly
-    /// The last slot does not count.
-    HeldButForTheLastSlot
-    /// A held over the count is sound.
-    HeldTooManyTaken
-    /// A held under the count is sound.
-    HeldTooFewTaken
-    /// Any helds are sound whose sum is the count.
-    HeldTakenBySum
-    /// The held of the last of sixteen lines is not looked at.
-    HeldOfFifteenLines
-    /// An address that has no line holds nothing.
-    HeldByUnlistedIsZero
-    /// A setup goes by the line as the call found it: run-out entries and earlier questions do not count.
-    HeldBeforeTheCall
-    /// A making writes the kinds of plain lines.
-    HeldMadeOfPlainKinds
 
     // Grants.
     HighestFreeSlot
@@ -249,8 +217,6 @@ thread_local! {
     static NOW: Cell<Wrong> = const { Cell::new(FullToEveryone) };
     /// The clock's last move was a large step back.
     static SET_BACK: Cell<bool> = const { Cell::new(false) };
-    /// The listed addresses that a call found, with their helds.
-    static FOUND: RefCell<Vec<(u128, u32)>> = const { RefCell::new(Vec::new()) };
 }
 
 fn now() -> Wrong {
@@ -269,13 +235,6 @@ impl Rules for Bent {
         match (now(), weeks) {
             (ThirteenBitsMadeOfKind1, Weeks::Thirteen) => table::CLOCK,
             _ => Law::clock_kind(weeks),
-        }
-    }
-
-    fn line_kinds(lines: Lines) -> (u8, u8) {
-        match now() {
-            HeldMadeOfPlainKinds => Law::line_kinds(Lines::Plain),
-            _ => Law::line_kinds(lines),
         }
     }
 
@@ -487,71 +446,9 @@ impl Rules for Bent {
     fn holds(entry: Entry, sender: Sender) -> bool {
         match now() {
             OldBoxHoldingsByPort => same_sender(entry, sender),
-            HoldingsByLowHalf => entry.address() as u64 == sender.address as u64,
-            HoldingsByHighHalf => entry.address() >> 64 == sender.address >> 64,
+            HeldByLowHalf => entry.address() as u64 == sender.address as u64,
+            HeldByHighHalf => entry.address() >> 64 == sender.address >> 64,
             _ => Law::holds(entry, sender),
-        }
-    }
-
-    fn held(table: &Table, sender: Sender) -> u32 {
-        let counted = table.entries().filter(|&entry| Self::holds(entry, sender)).count() as u32;
-        let line = table.held(sender.address);
-        match now() {
-            HeldByUnlistedIsZero if table.layout.lines == Lines::Counted => line.unwrap_or(0),
-            HeldBeforeTheCall if line.is_some() => FOUND.with_borrow(|found| {
-                found.iter().find(|(address, _)| *address == sender.address).expect("listed").1
-            }),
-            _ => counted,
-        }
-    }
-
-    fn held_by(table: &Table, address: u128) -> u32 {
-        let of_address = |entry: &Entry| entry.address() == address;
-        let right = Law::held_by(table, address);
-        match now() {
-            HeldOfEstablishedOnly => {
-                let entries = table.entries().filter(of_address);
-                entries.filter(|entry| entry.is_established()).count() as u32
-            }
-            HeldButForTheLastSlot => {
-                let last = table.slots.len() - 1;
-                let held = !table.is_free(last) && of_address(&table.entry(last));
-                right - u32::from(held)
-            }
-            _ => right,
-        }
-    }
-
-    fn held_after(table: &Table, change: Change, sender: Sender, before: u32) -> u32 {
-        match (now(), change) {
-            (HeldLeftByGrants, Change::Granted)
-            | (HeldLeftByEnds, Change::Ended)
-            | (HeldLeftByRunOuts, Change::RanOut) => before,
-            (HeldUpByResponses, Change::Established) | (HeldUpByRenewals, Change::Renewed) => {
-                before + 1
-            }
-            (HeldByPort, _) => {
-                table.entries().filter(|&entry| same_sender(entry, sender)).count() as u32
-            }
-            _ => Self::held_by(table, sender.address),
-        }
-    }
-
-    fn helds_are_right(table: &Table) -> bool {
-        let lines = || {
-            let held =
-                |line: table::Line| Some((line.held()?, Self::held_by(table, line.address())));
-            table.listed().filter_map(held)
-        };
-        match now() {
-            HeldTooManyTaken => lines().all(|(held, right)| held >= right),
-            HeldTooFewTaken => lines().all(|(held, right)| held <= right),
-            HeldTakenBySum => {
-                let sums = lines().fold((0, 0), |sums, line| (sums.0 + line.0, sums.1 + line.1));
-                sums.0 == sums.1
-            }
-            HeldOfFifteenLines => lines().take(LINES - 1).all(|(held, right)| held == right),
-            _ => lines().all(|(held, right)| held == right),
         }
     }
 
@@ -665,26 +562,19 @@ const ON_EITHER: [Wrong; 12] = [
     BlindTo(Fault::Place),
 ];
 
-/// Right on every table with plain lines.
-fn is_of_held(wrong: Wrong) -> bool {
+/// Right on every table that has no weeks of thirteen bits.
+fn is_of_thirteen_bits(wrong: Wrong) -> bool {
     matches!(
         wrong,
-        HeldLeftByGrants
-            | HeldLeftByEnds
-            | HeldLeftByRunOuts
-            | HeldUpByResponses
-            | HeldUpByRenewals
-            | HeldByPort
-            | HeldOfEstablishedOnly
-            | HeldButForTheLastSlot
-            | HeldTooManyTaken
-            | HeldTooFewTaken
-            | HeldTakenBySum
-            | HeldOfFifteenLines
-            | HeldByUnlistedIsZero
-            | HeldBeforeTheCall
-            | HeldMadeOfPlainKinds
-            | BlindTo(Fault::Held | Fault::UnusedHeld)
+        ThirteenBitsOverTenBitCycle
+            | ThirteenBitsStepOf32BitsBack
+            | ThirteenBitsStepOf32BitsForward
+            | ThirteenBitsPlaceOf32Bits
+            | ThirteenBitsMadeOfKind1
+            | ThirteenBitsTakeWeek8192
+            | ThirteenBitsRefuseWeek1024
+            | ThirteenBitsGuessTheEpoch
+            | BlindTo(Fault::PlaceHighBytes)
     )
 }
 
@@ -694,7 +584,7 @@ struct OnTablesFor(Weeks, Wrong);
 impl OnTablesFor {
     fn server(&self, table: &[u8]) -> &dyn Server {
         match table::shape_of(table.len()) {
-            Some((layout, _)) if layout.weeks == self.0 => &self.1,
+            Some((weeks, _)) if weeks == self.0 => &self.1,
             _ => &Oracle,
         }
     }
@@ -724,10 +614,6 @@ impl Server for OnTablesFor {
         let server = self.server(table);
         server.serve(week, second, high, low, port, random, datagram, table, reply)
     }
-
-    fn move_table(&self, way: Way, source: &[u8], table: &mut [u8]) -> u32 {
-        self.server(source).move_table(way, source, table)
-    }
 }
 
 impl Server for Wrong {
@@ -754,17 +640,8 @@ impl Server for Wrong {
         reply: &mut [u8],
     ) -> Served {
         NOW.set(*self);
-        if let (HeldBeforeTheCall, Some(table)) = (self, Table::new(table)) {
-            let held = |line: table::Line| Some((line.address(), line.held()?));
-            FOUND.set(table.listed().filter_map(held).collect());
-        }
         let sender = Sender { address: u128::from(high) << 64 | u128::from(low), port };
         calls::serve_by::<Bent>(week, second, sender, random, datagram, table, reply)
-    }
-
-    fn move_table(&self, way: Way, source: &[u8], table: &mut [u8]) -> u32 {
-        NOW.set(*self);
-        calls::move_by::<Bent>(way, source, table)
     }
 }
 
@@ -776,17 +653,19 @@ fn named(wrong: Wrong) -> Named {
 }
 
 /// Those that lists on such tables can tell apart.
-pub fn all(layouts: Layouts) -> Vec<Named> {
+pub fn all(widths: Widths) -> Vec<Named> {
     let blind = Fault::ALL.iter().map(|&fault| BlindTo(fault));
     let mut wrong: Vec<Wrong> = WRONG.iter().copied().chain(blind).collect();
-    if layouts == Layouts::Plain {
-        wrong.retain(|&wrong| !is_of_held(wrong));
+    if widths == Widths::TenBits {
+        wrong.retain(|&wrong| !is_of_thirteen_bits(wrong));
     }
     let mut all: Vec<Named> = wrong.into_iter().map(named).collect();
-    all.extend(ON_EITHER.map(|wrong| -> Named {
-        let server = Box::new(OnTablesFor(Weeks::Thirteen, wrong));
-        (format!("ThirteenBits{wrong:?}"), server)
-    }));
+    if widths == Widths::Both {
+        all.extend(ON_EITHER.map(|wrong| -> Named {
+            let server = Box::new(OnTablesFor(Weeks::Thirteen, wrong));
+            (format!("ThirteenBits{wrong:?}"), server)
+        }));
+    }
     all
 }
 

@@ -27,8 +27,9 @@ use Rattle.claims.proofs.Demand3.Permutations.{alike-is-perm}
 use Rattle.claims.proofs.Relation.MoveKeeps.{move-keeps}
 use Rattle.claims.proofs.AcceptedCalls.{make-accepted, make-judged, tick-accepted, tick-judged, serve-accepted, serve-judged}
 use Rattle.claims.proofs.Demand3.FreshTable.{fresh-related}
-use Rattle.claims.proofs.Demand3.TallyLaws.{before-n}
-use Rattle.claims.proofs.Relation.DatagramKeeps.{done-le, datagram-keeps, layout-before}
+use Rattle.claims.proofs.Demand3.TallyLaws.{before-n, before-cycle}
+use Rattle.claims.proofs.Relation.DatagramKeeps.{done-le, datagram-keeps}
+use Rattle.claims.proofs.Relation.TableTally.{same_layout}
 
 -- THE INVARIANT: bytes of a table that is related to the tally, and of the buffer's length
 pub record Invariant (size : ℕ) (b : List ℕ) (y : Tally) : Type 0 where
@@ -123,9 +124,8 @@ unfolding table_after
 served-next size b lent y c range x zero e =
     let p = serve-accepted c b e in
     let i = cond (matched c.datagram) (qdcount c.datagram) 0 in
-    let v = kept-reading x c.week c.second p.reading in
-    let r = datagram-keeps c x.table y range v p.questions x.related i (done-le c) in
-    let l = layout-before c x.table y range v p.questions x.related i (done-le c) in
+    let r = datagram-keeps c x.table y range (kept-reading x c.week c.second p.reading) p.questions x.related i (done-le c) in
+    let l = same_layout x.table (table_before c x.table i) y (tally_before c y i) x.related r (before-cycle c y i) in
     record {
       table = table_before c x.table i;
       bytes = ap (λ (t : Table). table_bytes (table_before c t i)) (sym (kept_back x));

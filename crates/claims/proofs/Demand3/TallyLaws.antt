@@ -47,6 +47,10 @@ pub before-n : (c : ServeCall) (y : Tally) (i : ℕ) → (tally_before c y i).n 
 unfolding move_tally
 before-n c y i = before-stays (λ z. z.n) (λ z hs. refl) c y i
 
+pub before-cycle : (c : ServeCall) (y : Tally) (i : ℕ) → (tally_before c y i).cycle ≡ y.cycle
+unfolding move_tally
+before-cycle c y i = before-stays (λ z. z.cycle) (λ z hs. refl) c y i
+
 pub before-running : (c : ServeCall) (y : Tally) (i : ℕ)
     → (tally_before c y i).running ≡ (y.running + passed y.cycle y.place (c.week * 604800 + c.second)) % 4294967296
 unfolding move_tally

@@ -11,7 +11,7 @@ use borrow.Author.Tests.{leb-false, ltb-true, ltb-false, eqb-false}
 use Rattle.model.specs.Numbers.{Bytes}
 use Rattle.model.specs.Clock.{Weeks, ten_bit, thirteen_bit, weeks_in, valid_reading}
 use Rattle.model.specs.Query.{wrong_size, flag_qr, flag_opcode, flag_tc, qdcount, ancount, nscount, arcount, good_header}
-use Rattle.model.specs.Table.{LineForm, plain, counted, Layout, layout_of, slots_in, size_of}
+use Rattle.model.specs.Table.{Layout, layout_of, slots_in, size_of}
 use Rattle.model.specs.Calls.{table_length}
 use Rattle.model.proofs.ListLaws.{and_left, and_right, or_left, or_right, not-both, one_of}
 use Rattle.model.proofs.QueryLaws.{HeaderFacts, header-facts}
@@ -24,7 +24,7 @@ use Rattle.claims.proofs.Refusals.QuestionReading.{big-two}
 
 -- THE TABLE'S LENGTH
 
--- it is the length of no table of 1 to 64 slots, in any layout
+-- it is the length of no table of 1 to 64 slots, in either layout
 pub not-laid : (size : ℕ) → table_length size ≡ false → (n : ℕ) → 1 ≤ n → n ≤ 64 → (l : Layout) → size ≢ size_of l n
 unfolding table_length
 not-laid size h n low high l e =
@@ -38,21 +38,17 @@ not-laid size h n low high l e =
     h
 
 pub bad-length : (size : ℕ) → table_length size ≡ false → WrongLength size
-bad-length size h n low high =
-    let wrong : (w : Weeks) (f : LineForm) → size ≢ size_of (record { weeks = w; lines = f }) n = λ w f. not-laid size h n low high (record { weeks = w; lines = f }) in
-    (wrong ten_bit plain, wrong thirteen_bit plain, wrong ten_bit counted, wrong thirteen_bit counted)
+bad-length size h n low high = (not-laid size h n low high (record { weeks = ten_bit }), not-laid size h n low high (record { weeks = thirteen_bit }))
 
 pub good_length : (size : ℕ) → table_length size ≡ true → WrongLength size → ⊥
 good_length size h wrong =
     let f = length-facts size h in
-    go (layout_of size).weeks (layout_of size).lines (slots_in size) f.whole (wrong (slots_in size) f.slots_min f.slots_max)
+    let w = wrong (slots_in size) f.slots_min f.slots_max in
+    go (layout_of size).weeks (slots_in size) f.whole w
   where
-    go : (w : Weeks) (f : LineForm) (n : ℕ) → size ≡ size_of (record { weeks = w; lines = f }) n
-        → (size ≢ 313 + 320 * n) × (size ≢ 317 + 320 * n) × (size ≢ 329 + 320 * n) × (size ≢ 333 + 320 * n) → ⊥
-    go ten_bit plain n e w = w.0 e
-    go thirteen_bit plain n e w = w.1 e
-    go ten_bit counted n e w = w.2 e
-    go thirteen_bit counted n e w = w.3 e
+    go : (w : Weeks) (n : ℕ) → size ≡ size_of (record { weeks = w }) n → (size ≢ 313 + 320 * n) × (size ≢ 317 + 320 * n) → ⊥
+    go ten_bit n e w = w.0 e
+    go thirteen_bit n e w = w.1 e
 
 -- THE READING
 

@@ -1,7 +1,7 @@
 -- A datagram's options, one after the other, keep the table and the tally related, and both say the same of each. Assumes nothing.
 use Prim.Native.Nat.{ℕ, zero, suc, ◌≤◌, ◌<◌}
 use native.Mathlib.Omega.{arith}
-use mathlib.Core.Path.{◌≡◌, ◌∙◌}
+use mathlib.Core.Path.{◌≡◌}
 use mathlib.Core.Bool.{true}
 use Rattle.model.specs.Clock.{valid_reading, place_of}
 use Rattle.model.specs.Query.{qdcount, matched, good_questions, question_start, question, llq_option}
@@ -11,8 +11,7 @@ use Rattle.model.proofs.ListLaws.{either}
 use Rattle.model.proofs.ClockLaws.{placed}
 use Rattle.model.proofs.NameLaws.{question-valid}
 use Rattle.model.proofs.QueryLaws.{good-at}
-use Rattle.model.proofs.StepLaws as steps
-use Rattle.model.proofs.StepLaws.{fits-question, moved-layout}
+use Rattle.model.proofs.StepLaws.{fits-question}
 use Rattle.claims.specs.Tally.{Tally, tally_before, tally_outcome}
 use Rattle.claims.specs.Events.{ServeInRange}
 use Rattle.claims.specs.Changes.{done_options}
@@ -48,16 +47,6 @@ module _ (c : ServeCall) (t : Table) (y : Tally) (v : ServeInRange c) (w : valid
   datagram-keeps (suc i) h =
       (option-keeps c.sender c.random (question c.datagram i) (llq_option c.datagram i) (table_before c t i) (tally_before c y i)
       (arguments-at c i v g h) (datagram-keeps i (omega arith))).0
-
-  -- no option changes the layout
-  pub layout-before : (i : ℕ) → i ≤ qdcount c.datagram → (table_before c t i).layout ≡ t.layout
-  unfolding table_before
-  layout-before zero h = moved-layout t (place_of c.week c.second)
-  layout-before (suc i) h =
-      let a = arguments-at c i v g h in
-      (steps.option-keeps c.sender c.random (question c.datagram i) (llq_option c.datagram i) (table_before c t i) a.sender a.question
-      (datagram-keeps i (omega arith)).fits).layout
-      ∙ layout-before i (omega arith)
 
   -- what is said of option i
   pub outcome-keeps : (i : ℕ) → i < qdcount c.datagram → outcome_of c t i ≡ tally_outcome c y i

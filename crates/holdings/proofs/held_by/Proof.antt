@@ -15,10 +15,10 @@ use Rattle.holdings.proofs.held_by.Lts as lts
 use Rattle.record.proofs.has_holder.Reads as has-holder-reads
 
 abbrev invariant-loop : tie.invariant-loop
-invariant-loop slots n hi lo k₀ j₀ k j = (j ≤ n) × (k ≤ j) × (k ≡ count (held_to 0 slots j) (held_by (hi * 2 ^ 64 + lo)))
+invariant-loop slots n hi lo k₀ i₀ k i = (i ≤ n) × (k ≤ i) × (k ≡ count (held_to 0 slots i) (held_by (hi * 2 ^ 64 + lo)))
 
 abbrev decreases-loop : tie.decreases-loop
-decreases-loop slots n hi lo k₀ j₀ k j = n - j
+decreases-loop slots n hi lo k₀ i₀ k i = n - i
 
 loop-holds : tie.Need-loop-init invariant-loop decreases-loop
 loop-holds c = (search rules, search rules, rw held_none)
@@ -32,8 +32,8 @@ has-holder-requires c κs = search rules
 add-k : tie.Need-overflow-add-k invariant-loop decreases-loop
 add-k c = search rules
 
-add-j : tie.Need-overflow-add-j invariant-loop decreases-loop
-add-j c = search rules
+add-i : tie.Need-overflow-add-i invariant-loop decreases-loop
+add-i c = search rules
 
 loop-less : tie.Need-loop-smaller invariant-loop decreases-loop
 loop-less c = search rules
@@ -43,13 +43,13 @@ loop-again c =
     let l = c.before.before.before.loop in
     let s = sym c.before.has-holder.ensures in
     ⊎_elim
-    (λ w. (omega arith, omega arith, rw w.1 (count-hit 0 _ l.j _ l.k (s ∙ w.0.taken) l.invariant.2)))
-    (λ w. (omega arith, omega arith, rw w.1 (count-miss 0 _ l.j _ l.k (s ∙ w.0.left) l.invariant.2)))
+    (λ w. (omega arith, omega arith, rw w.1 (count-hit 0 _ l.i _ l.k (s ∙ w.0.taken) l.invariant.2)))
+    (λ w. (omega arith, omega arith, rw w.1 (count-miss 0 _ l.i _ l.k (s ∙ w.0.left) l.invariant.2)))
     c.if1.branch
 
 returns : tie.Need-returns invariant-loop decreases-loop
 returns c =
-    let e : c.before.loop.j ≡ c.before.before.before.args.n = omega arith in
+    let e : c.before.loop.i ≡ c.before.before.before.args.n = omega arith in
     (omega arith, rw (← e) c.before.loop.invariant.2)
 
 pub held-by-spec : {M : Type 1} → statement M
@@ -62,7 +62,7 @@ held-by-spec =
     mul-has-holder
     has-holder-requires
     add-k
-    add-j
+    add-i
     loop-less
     loop-again
     returns)

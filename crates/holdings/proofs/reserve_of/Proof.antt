@@ -2,10 +2,6 @@
 use Prim.Native.Nat.{◌-◌, ◌*◌, ◌≤◌}
 use mathlib.Core.Path.{◌≡◌, refl}
 use native.Mathlib.Omega.{arith}
-use Rattle.model.specs.Table.{line_size}
-use Rattle.layout.specs.Forms.{form_of}
-use Rattle.layout.proofs.WidthLaws.{row_in}
-use Rattle.layout.proofs.CountedLaws.{right-at}
 use borrow.Author.Rules.{rules}
 use Rattle.model.specs.Lists.{count, up_to}
 use Rattle.model.specs.Rules.{reserve}
@@ -19,21 +15,17 @@ use Rattle.holdings.proofs.reserve_of.Lts as lts
 use Rattle.holdings.proofs.line_reserve.Reads as line-reserve-reads
 
 abbrev invariant-loop : tie.invariant-loop
-invariant-loop lines slots n form m k₀ i₀ k i = (i ≤ m) × (k ≤ 255 * i) × (k ≡ reserve (lines_to (line_size (form_of form)) lines i) (count (held_to 0 slots n)))
+invariant-loop lines slots n m k₀ i₀ k i = (i ≤ m) × (k ≤ 255 * i) × (k ≡ reserve (lines_to lines i) (count (held_to 0 slots n)))
 
 abbrev decreases-loop : tie.decreases-loop
-decreases-loop lines slots n form m k₀ i₀ k i = m - i
+decreases-loop lines slots n m k₀ i₀ k i = m - i
 
 loop-holds : tie.Need-loop-init invariant-loop decreases-loop
 unfolding reserve up_to
 loop-holds c = (search rules, search rules, refl)
 
 line-reserve-requires : tie.Need-line-reserve-requires invariant-loop decreases-loop
-line-reserve-requires c κs =
-    let z = c.before.before.before.before in
-    let a = z.args in
-    let r = row_in (line_size (form_of a.form)) c.before.loop.i a.m c.loop-test.true in
-    (omega (arith, z.requires.1), z.requires.2, z.requires.3, right-at a.lines.now a.slots.now a.n (form_of a.form) a.m c.before.loop.i z.requires.4 c.loop-test.true)
+line-reserve-requires c κs = search rules
 
 add-k : tie.Need-overflow-add-k invariant-loop decreases-loop
 add-k c = search rules

@@ -28,7 +28,7 @@ serve-each-requires c κs =
     let f = z.requires.2 in
     let m = measures d _ f in
     let e = length-matched d _ _ _ m f.matched z.requires.3 in
-    (z.requires.0, z.requires.1, m.at_most, questions-of d _ f, f.option z.requires.3, omega (arith, e, z.requires.4, z), z.requires.5)
+    (z.requires.0, z.requires.1, m.at_most, questions-of d _ f, f.option z.requires.3, omega (arith, e, z.requires.4, z))
 
 same_length : tie.Need-same-length
 same_length c = search rules

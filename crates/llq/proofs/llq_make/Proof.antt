@@ -6,7 +6,7 @@ use mathlib.Core.Bool.{true}
 use lib.ListN.{length}
 use borrow.Author.Tests.{not-true, not-false}
 use Rattle.model.specs.Clock.{valid_reading}
-use Rattle.model.specs.Table.{line_size, Layout, place_bytes, layout_of, slots_in}
+use Rattle.model.specs.Table.{place_bytes, layout_of, slots_in}
 use Rattle.layout.specs.Places.{layout_in}
 use Rattle.model.specs.Calls.{table_length, good_roster}
 use Rattle.llq.proofs.LadderLaws as ladder
@@ -66,10 +66,9 @@ make-fresh-requires : tie.Need-make-fresh-requires
 make-fresh-requires c κs =
     let right = (length-facts _ (started c.before.before.before.before).0).whole in
     let o = c.before.before.before.before.before.before.before.before.of.ensures in
-    let same = ap place_bytes o.0 in
-    let lines = ap (λ (k : Layout). line_size k.lines) o.0 in (
+    let same = ap place_bytes o.0 in (
       o,
-      omega (arith, right, o.3, same, lines),
+      omega (arith, right, o.3, same),
       sym c.before.before.before.roster-sound.ensures ∙ not-false _ c.before.before.if3.false,
       reading-place (layout_in c.before.before.before.before.before.before.before.before.of.result) _ _ c.before.before.before.before.before.valid.ensures (not-false _ c.before.before.before.before.if2.false) c.place.ensures,
     )

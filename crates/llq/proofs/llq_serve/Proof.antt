@@ -16,7 +16,7 @@ use Rattle.llq.proofs.LadderLaws as ladder
 use Rattle.llq.proofs.FoundLaws.{measures}
 use Rattle.model.proofs.Meaning.{bytes_back as sound-formed}
 use Rattle.table.proofs.WriteLaws.{formed-written}
-use Rattle.llq.proofs.AnswerLaws.{reading-tested, reading-place, sound-place, sound-few, sound-live, answers-mismatched, serve-answered}
+use Rattle.llq.proofs.AnswerLaws.{reading-tested, reading-place, sound-place, sound-live, answers-mismatched, serve-answered}
 use Rattle.llq.proofs.ReplyLaws.{length-mismatched}
 
 -- the tests that have passed: the table and the reading
@@ -112,7 +112,6 @@ move-on-requires c κs =
       sound-place b o.ensures.0 e,
       reading-place (layout_in o.result) _ _ c.before.before.before.before.before.before.before.before.before.valid.ensures (not-false _ c.before.before.before.before.before.before.before.before.if2.false) c.place.ensures,
       sound-live b e,
-      sound-few b o.ensures.3 e,
     )
 
 answer-mismatch-requires : tie.Need-answer-mismatch-requires
@@ -156,7 +155,7 @@ answer-requires c κs =
     let h = r.before.parse.ensures.query r.if3.false in
     let d = w.before.before.before.before.before.before.before.before.before.before.before.before.before.before.before.before.before.before.before.before.before.args.datagram.now in
     let len = w.before.before.before.before.before.before.before.before.reply-length.ensures in
-    (formed-written w.before.before.before.move-on.ensures.0, rw w.before.before.before.move-on.auto.0 c.before.before.before.before.before.before.before.before.before.before.before.before.before.before.before.before.before.before.before.before.of.ensures, h, not-false _ c.before.before.if6.false, omega (arith, len, w.before.before.before.before.before.before.before.if4.false), sound-few _ c.before.before.before.before.before.before.before.before.before.before.before.before.before.before.before.before.before.before.before.before.of.ensures.3 (started r.before.before).0)
+    (formed-written w.before.before.before.move-on.ensures.0, rw w.before.before.before.move-on.auto.0 c.before.before.before.before.before.before.before.before.before.before.before.before.before.before.before.before.before.before.before.before.of.ensures, h, not-false _ c.before.before.if6.false, omega (arith, len, w.before.before.before.before.before.before.before.if4.false))
 
 answered-requires-2 : tie.Need-answered-requires-2
 answered-requires-2 c κs = search rules

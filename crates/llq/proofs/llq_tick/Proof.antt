@@ -13,7 +13,7 @@ use Rattle.model.specs.Calls.{freed_by}
 use Prim.Native.Nat.{ℕ}
 use Rattle.llq.proofs.LadderLaws as ladder
 use Rattle.model.proofs.Meaning.{bytes_back as sound-formed}
-use Rattle.llq.proofs.AnswerLaws.{sound-place, sound-few, sound-live, freed-few, reading-tested, reading-place}
+use Rattle.llq.proofs.AnswerLaws.{sound-place, sound-live, freed-few, reading-tested, reading-place}
 use borrow.Author.Rules.{rules}
 use Rattle.llq.proofs.llq_tick.Statement.{statement}
 use Rattle.llq.proofs.llq_tick.Tie as tie
@@ -65,7 +65,6 @@ move-on-requires c κs =
       sound-place b o.ensures.0 e,
       reading-place (layout_in o.result) _ _ c.before.before.before.valid.ensures (not-false _ c.before.before.if2.false) c.place.ensures,
       sound-live b e,
-      sound-few b o.ensures.3 e,
     )
 
 cast-t15 : tie.Need-overflow-cast-t15

@@ -62,7 +62,7 @@ serve-one-requires : tie.Need-serve-one-requires invariant-loop decreases-loop
 serve-one-requires c κs =
     let l = c.before.before.before.before.before.loop in
     let z = c.before.before.before.before.before.before.before.before.before in
-    let q = z.requires.3 l.i _ (omega arith) in (formed-written l.invariant.3, rw l.invariant.2 z.requires.1, q.1, q.2, omega (arith, z), z.requires.6)
+    let q = z.requires.3 l.i _ (omega arith) in (formed-written l.invariant.3, rw l.invariant.2 z.requires.1, q.1, q.2, omega (arith, z))
 
 add-i : tie.Need-overflow-add-i invariant-loop decreases-loop
 add-i c = search rules

@@ -39,7 +39,7 @@ enum-told-3 c = search rules
 serve-setup-requires : tie.Need-serve-setup-requires
 serve-setup-requires c κs =
     let z = c.before.before.before.before.before.before in
-    (z.requires.0, z.requires.1, formed-n z.args.t.now (λ j. omega (arith, c.before.before.before.before.before.slice-known.given j)) z.requires.0 _ z.requires.1.3, z.requires.2, z.requires.3, z.requires.4)
+    (z.requires.0, z.requires.1, formed-n z.args.t.now (λ j. omega (arith, c.before.before.before.before.before.slice-known.given j)) z.requires.0 _ z.requires.1.3, z.requires.2, z.requires.3)
 
 enum-told-4 : tie.Need-enum-told-4
 enum-told-4 c = search rules
@@ -47,7 +47,7 @@ enum-told-4 c = search rules
 serve-response-requires : tie.Need-serve-response-requires
 serve-response-requires c κs =
     let z = c.before.before.before.before.before.before in
-    (z.requires.0, z.requires.1, formed-n z.args.t.now (λ j. omega (arith, c.before.before.before.before.before.slice-known.given j)) z.requires.0 _ z.requires.1.3, z.requires.2, z.requires.4)
+    (z.requires.0, z.requires.1, formed-n z.args.t.now (λ j. omega (arith, c.before.before.before.before.before.slice-known.given j)) z.requires.0 _ z.requires.1.3, z.requires.2)
 
 enum-told-5 : tie.Need-enum-told-5
 enum-told-5 c = search rules
@@ -55,7 +55,7 @@ enum-told-5 c = search rules
 serve-refresh-requires : tie.Need-serve-refresh-requires
 serve-refresh-requires c κs =
     let z = c.before.before.before.before.before.before in
-    (z.requires.0, z.requires.1, formed-n z.args.t.now (λ j. omega (arith, c.before.before.before.before.before.slice-known.given j)) z.requires.0 _ z.requires.1.3, z.requires.2, z.requires.4)
+    (z.requires.0, z.requires.1, formed-n z.args.t.now (λ j. omega (arith, c.before.before.before.before.before.slice-known.given j)) z.requires.0 _ z.requires.1.3, z.requires.2)
 
 returns : tie.Need-returns
 returns c =

@@ -14,9 +14,9 @@ use Rattle.options.proofs.serve_refresh.Tie as tie
 use Rattle.options.proofs.serve_refresh.Reads as reads
 use Rattle.options.proofs.serve_refresh.Lts as lts
 use Rattle.entries.proofs.find_refreshed.Reads as find-refreshed-reads
+use Rattle.record.proofs.running_count.Reads as running-count-reads
 use Rattle.options.proofs.granted_lease.Reads as granted-lease-reads
 use Rattle.options.proofs.served.Reads as served-reads
-use Rattle.record.proofs.running_count.Reads as running-count-reads
 use Rattle.table.proofs.end_entry.Reads as end-entry-reads
 use Rattle.table.proofs.renew_at.Reads as renew-at-reads
 
@@ -38,14 +38,22 @@ find-refreshed-requires c κs = search rules
 enum-known-i : tie.Need-enum-known-i
 enum-known-i c = search rules
 
+sub-end-entry : tie.Need-overflow-sub-end-entry
+sub-end-entry c = search rules
+
+part-end-entry-start : tie.Need-slice-bounds-end-entry-start
+part-end-entry-start c = search rules
+
+part-end-entry-end : tie.Need-slice-bounds-end-entry-end
+part-end-entry-end c = search rules
+
 end-entry-requires : tie.Need-end-entry-requires
 end-entry-requires c κs =
     let z = c.before.before.before.before.before.before.before.before.before.before.before.before.before.before in
     let a = z.args in
-    let bytes : Bytes a.t.now = λ j. omega (arith, c.before.before.before.before.before.before.before.before.before.before.before.before.before.slice-known.given j) in
     let w = rw (tail-is a.t.now z.requires.1.2) at c.before.before.before.before.before.before.before.find-refreshed.ensures in
     let f = found-is (drop (base (layout_of (length a.t.now))) a.t.now) a.l.n _ _ _ (sym w ∙ c.before.before.before.before.before.i.given.1) in
-    (z.requires.0, z.requires.1, z.requires.4, f.1, law.refreshed-held a.t.now bytes z.requires.0 a.l.n z.requires.2 a.s 0 (question_of a.d.now a.q) a.o f.0 f.1 _ f.2)
+    omega (arith, z, z.requires.2, f.1)
 
 served-requires : tie.Need-served-requires
 served-requires c κs = search rules
@@ -60,7 +68,7 @@ returns c =
     let bytes : Bytes a.t.now = λ j. omega (arith, c.before.before.before.before.before.before.before.before.before.before.before.before.before.before.before.before.before.slice-known.given j) in
     let w = rw (tail-is a.t.now z.requires.1.2) at c.before.before.before.before.before.before.before.before.before.before.before.find-refreshed.ensures in
     let f = found-is (drop (base (layout_of (length a.t.now))) a.t.now) a.l.n _ _ _ (sym w ∙ c.before.before.before.before.before.before.before.before.before.i.given.1) in
-    law.refresh-end a.t.now bytes z.requires.0 a.l.n z.requires.2 a.s 0 (question_of a.d.now a.q) a.o f.0 f.1 _ f.2 c.before.before.before.before.before.if1.true _ c.before.before.before.end-entry.ensures _ c.served.ensures
+    law.refresh-end a.t.now bytes z.requires.0 a.l.n z.requires.2 a.s 0 (question_of a.d.now a.q) a.o f.0 f.1 _ f.2 c.before.before.before.before.before.if1.true _ (tail_written a.t.now _ 320 _ z.requires.1.2 c.before.before.before.end-entry.ensures) _ c.served.ensures
 
 granted-lease-requires : tie.Need-granted-lease-requires
 granted-lease-requires c κs = search rules
@@ -128,6 +136,9 @@ serve-refresh-spec =
     part-find-refreshed-end
     find-refreshed-requires
     enum-known-i
+    sub-end-entry
+    part-end-entry-start
+    part-end-entry-end
     end-entry-requires
     served-requires
     same_length

@@ -1,14 +1,9 @@
 -- `options::serve_setup` meets its contract: found, full or granted. Assumes nothing.
 use native.Mathlib.Omega.{arith}
-use mathlib.Core.Path.{ap, refl, sym, ◌∙◌}
+use mathlib.Core.Path.{refl, sym, ◌∙◌}
 use lib.ListN.{length, drop}
 use Rattle.model.specs.Numbers.{Bytes}
-use Rattle.model.specs.Lists.{count}
-use Rattle.model.specs.Rules.{full}
-use Rattle.model.specs.Table.{LineForm, Layout, line_size, lines_at, base, layout_of, listed}
-use Rattle.layout.specs.Shape.{lines_to}
-use Rattle.layout.specs.Held.{held_to}
-use Rattle.entries.specs.Reads.{address_of}
+use Rattle.model.specs.Table.{base, layout_of}
 use Rattle.wire.specs.Records.{question_of}
 use Rattle.layout.proofs.PartLaws.{tail-is}
 use Rattle.entries.proofs.Laws.{found-is, nothing_is}
@@ -20,10 +15,10 @@ use Rattle.options.proofs.serve_setup.Reads as reads
 use Rattle.options.proofs.serve_setup.Lts as lts
 use Rattle.entries.proofs.find_asked.Reads as find-asked-reads
 use Rattle.entries.proofs.is_full.Reads as is-full-reads
+use Rattle.record.proofs.running_count.Reads as running-count-reads
 use Rattle.options.proofs.grant.Reads as grant-reads
 use Rattle.options.proofs.life_left.Reads as life-left-reads
 use Rattle.options.proofs.served.Reads as served-reads
-use Rattle.record.proofs.running_count.Reads as running-count-reads
 
 cast-a : tie.Need-overflow-cast-a
 cast-a c = search rules
@@ -77,15 +72,7 @@ part-is-full-end-2 : tie.Need-slice-bounds-is-full-end-2
 part-is-full-end-2 c = search rules
 
 is-full-requires : tie.Need-is-full-requires
-is-full-requires c κs =
-    let z = c.before.before.before.before.before.before.before.before.before.before.before.before in
-    let a = z.args in
-    let bytes : Bytes a.t.now = λ j. omega (arith, c.before.before.before.before.before.before.before.before.before.before.before.slice-known.given j) in
-    let e = ap (λ (k : Layout). k.lines) z.requires.1.0 in
-    let w = ap line_size e in
-    let x = tail-is a.t.now z.requires.1.1 in
-    let y = tail-is a.t.now z.requires.1.2 in
-    (omega (arith, z.requires.1.1, z.requires.2), omega (arith, z.requires.1.2, z.requires.2), z.requires.5, law.held-right a.t.now bytes z.requires.0 a.l.n z.requires.2 e x y)
+is-full-requires c κs = search rules
 
 served-requires-2 : tie.Need-served-requires-2
 served-requires-2 c κs = search rules
@@ -100,8 +87,7 @@ returns c =
     let bytes : Bytes a.t.now = λ j. omega (arith, c.before.before.before.before.before.before.before.before.before.before.before.before.before.before.slice-known.given j) in
     let w = rw (tail-is a.t.now z.requires.1.2) at c.before.before.before.before.before.before.before.before.before.find-asked.ensures in
     let f = nothing_is (drop (base (layout_of (length a.t.now))) a.t.now) a.l.n _ (sym w ∙ c.before.before.before.before.before.before.before.enum_told.given.1) in
-    let u = rw (tail-is a.t.now z.requires.1.1, tail-is a.t.now z.requires.1.2) at c.before.before.is-full.ensures in
-    let v = u ∙ ap (λ (f : LineForm). full a.l.n (lines_to (line_size f) (drop (lines_at (layout_of (length a.t.now))) a.t.now) (listed f (drop (lines_at (layout_of (length a.t.now))) a.t.now) 16)) (count (held_to 0 (drop (base (layout_of (length a.t.now))) a.t.now) a.l.n)) (address_of a.s.high a.s.low)) (ap (λ (k : Layout). k.lines) z.requires.1.0) in
+    let v = rw (tail-is a.t.now z.requires.1.1, tail-is a.t.now z.requires.1.2) at c.before.before.is-full.ensures in
     law.setup-full a.t.now bytes z.requires.0 a.l.n z.requires.2 a.s a.r (question_of a.d.now a.q) a.o refl f (sym v ∙ c.before.if1.true) _ c.served2.ensures
 
 grant-requires : tie.Need-grant-requires
@@ -129,8 +115,7 @@ returns-3 c =
     let bytes : Bytes a.t.now = λ j. omega (arith, c.before.before.before.before.before.before.before.before.before.before.before.before.before.before.before.before.before.slice-known.given j) in
     let w = rw (tail-is a.t.now z.requires.1.2) at c.before.before.before.before.before.before.before.before.before.before.before.before.find-asked.ensures in
     let f = nothing_is (drop (base (layout_of (length a.t.now))) a.t.now) a.l.n _ (sym w ∙ c.before.before.before.before.before.before.before.before.before.before.enum_told.given.1) in
-    let u = rw (tail-is a.t.now z.requires.1.1, tail-is a.t.now z.requires.1.2) at c.before.before.before.before.before.is-full.ensures in
-    let v = u ∙ ap (λ (f : LineForm). full a.l.n (lines_to (line_size f) (drop (lines_at (layout_of (length a.t.now))) a.t.now) (listed f (drop (lines_at (layout_of (length a.t.now))) a.t.now) 16)) (count (held_to 0 (drop (base (layout_of (length a.t.now))) a.t.now) a.l.n)) (address_of a.s.high a.s.low)) (ap (λ (k : Layout). k.lines) z.requires.1.0) in
+    let v = rw (tail-is a.t.now z.requires.1.1, tail-is a.t.now z.requires.1.2) at c.before.before.before.before.before.is-full.ensures in
     law.setup-grant a.t.now bytes z.requires.0 a.l.n z.requires.2 a.s a.r (question_of a.d.now a.q) a.o refl f (sym v ∙ c.before.before.before.before.if1.false) _ _ c.before.before.grant.ensures
 
 pub serve-setup-spec : {M : Type 1} → statement M

@@ -3,7 +3,6 @@ use Prim.Native.Nat.{◌+◌, ◌-◌, ◌*◌, ◌≤◌}
 use mathlib.Core.Path.{◌≡◌, refl, sym, ap, ◌∙◌}
 use mathlib.Core.Bool.{true, not}
 use native.Mathlib.Omega.{arith}
-use Rattle.layout.proofs.WidthLaws.{row_in}
 use borrow.Author.Rules.{rules}
 use lib.Dec.{eqb}
 use Rattle.model.specs.Lists.{every, up_to}
@@ -21,10 +20,10 @@ use Rattle.octets.proofs.get64.Reads as get64-reads
 use Rattle.record.proofs.has_address.Reads as has-address-reads
 
 abbrev invariant-loop : tie.invariant-loop
-invariant-loop t w i a hi lo j₀ j = (j ≤ i) × (every (λ l. not (same_address l (read_line t (w * i)))) (lines_to w t j) ≡ true)
+invariant-loop t i a hi lo j₀ j = (j ≤ i) × (every (λ l. not (same_address l (read_line t (19 * i)))) (lines_to t j) ≡ true)
 
 abbrev decreases-loop : tie.decreases-loop
-decreases-loop t w i a hi lo j₀ j = i - j
+decreases-loop t i a hi lo j₀ j = i - j
 
 mul-a : tie.Need-overflow-mul-a invariant-loop decreases-loop
 mul-a c = search rules
@@ -45,26 +44,22 @@ loop-holds : tie.Need-loop-init invariant-loop decreases-loop
 unfolding every up_to
 loop-holds c = (search rules, refl)
 
--- line j lies before line i
-row : (c : tie.In-loop invariant-loop decreases-loop) → c.before.before.before.before.before.args.w * c.before.loop.j + c.before.before.before.before.before.args.w ≤ c.before.before.before.before.before.args.w * c.before.before.before.before.before.args.i
-row c = row_in _ _ _ c.loop-test.true
-
 mul-has-address : tie.Need-overflow-mul-has-address invariant-loop decreases-loop
-mul-has-address c = let r = row c in record { fits = omega arith }
+mul-has-address c = search rules
 
 add-has-address : tie.Need-overflow-add-has-address invariant-loop decreases-loop
-add-has-address c = let r = row c in record { fits = omega arith }
+add-has-address c = search rules
 
 has-address-requires : tie.Need-has-address-requires invariant-loop decreases-loop
-has-address-requires c κs = let r = row c in omega arith
+has-address-requires c κs = search rules
 
 returns : tie.Need-returns invariant-loop decreases-loop
 unfolding read_line
 returns c =
     let l = c.before.before.before.loop in
     let a = c.before.before.before.before.before.before.before.args in
-    let e = address_is a.lines.now (a.w * a.i) c.before.before.before.before.before.get64.ensures c.before.before.before.before.get642.ensures in
-    let s = ap (eqb (big_endian a.lines.now (a.w * l.j + 1) 16)) e ∙ sym c.before.has_address.ensures ∙ c.if1.true in
+    let e = address_is a.lines.now (19 * a.i) c.before.before.before.before.before.get64.ensures c.before.before.before.before.get642.ensures in
+    let s = ap (eqb (big_endian a.lines.now (19 * l.j + 1) 16)) e ∙ sym c.before.has_address.ensures ∙ c.if1.true in
     sym (lines-no _ _ a.i l.j (omega arith) (ap not s))
 
 add-j : tie.Need-overflow-add-j invariant-loop decreases-loop
@@ -78,8 +73,8 @@ unfolding read_line
 loop-again c =
     let l = c.before.before.before.loop in
     let a = c.before.before.before.before.before.before.before.args in
-    let e = address_is a.lines.now (a.w * a.i) c.before.before.before.before.before.get64.ensures c.before.before.before.before.get642.ensures in
-    let s = ap (eqb (big_endian a.lines.now (a.w * l.j + 1) 16)) e ∙ sym c.before.has_address.ensures ∙ c.if1.false in
+    let e = address_is a.lines.now (19 * a.i) c.before.before.before.before.before.get64.ensures c.before.before.before.before.get642.ensures in
+    let s = ap (eqb (big_endian a.lines.now (19 * l.j + 1) 16)) e ∙ sym c.before.has_address.ensures ∙ c.if1.false in
     (omega arith, lines-yes _ _ l.j (ap not s) l.invariant.1)
 
 returns-2 : tie.Need-returns-2 invariant-loop decreases-loop

@@ -3,7 +3,6 @@ use Prim.Native.Nat.{◌-◌, ◌≤◌}
 use mathlib.Core.Path.{◌≡◌, refl, sym, ◌∙◌}
 use mathlib.Core.Bool.{true}
 use native.Mathlib.Omega.{arith}
-use Rattle.layout.proofs.WidthLaws.{row_in}
 use borrow.Author.Rules.{rules}
 use borrow.Author.Tests.{not-true, not-false}
 use Rattle.model.specs.Lists.{no_two, up_to}
@@ -17,20 +16,17 @@ use Rattle.roster.proofs.lines_apart.Lts as lts
 use Rattle.roster.proofs.line_apart.Reads as line-apart-reads
 
 abbrev invariant-loop : tie.invariant-loop
-invariant-loop t w m i₀ i = (i ≤ m) × (no_two same_address (lines_to w t i) ≡ true)
+invariant-loop t m i₀ i = (i ≤ m) × (no_two same_address (lines_to t i) ≡ true)
 
 abbrev decreases-loop : tie.decreases-loop
-decreases-loop t w m i₀ i = m - i
+decreases-loop t m i₀ i = m - i
 
 loop-holds : tie.Need-loop-init invariant-loop decreases-loop
 unfolding no_two up_to
 loop-holds c = (search rules, refl)
 
 line-apart-requires : tie.Need-line-apart-requires invariant-loop decreases-loop
-line-apart-requires c κs =
-    let a = c.before.before.before.args in
-    let r = row_in a.w c.before.loop.i a.m c.loop-test.true in
-    (omega arith, omega arith, omega arith)
+line-apart-requires c κs = search rules
 
 returns : tie.Need-returns invariant-loop decreases-loop
 returns c =

@@ -1,9 +1,8 @@
 -- `roster::lines_valid` meets its contract: each line passed is valid. Assumes nothing.
-use Prim.Native.Nat.{◌+◌, ◌-◌, ◌*◌, ◌≤◌}
+use Prim.Native.Nat.{◌-◌, ◌≤◌}
 use mathlib.Core.Path.{◌≡◌, refl, sym, ◌∙◌}
 use mathlib.Core.Bool.{true}
 use native.Mathlib.Omega.{arith}
-use Rattle.layout.proofs.WidthLaws.{row_in}
 use borrow.Author.Rules.{rules}
 use borrow.Author.Tests.{not-true, not-false}
 use Rattle.model.specs.Lists.{every, up_to}
@@ -17,24 +16,20 @@ use Rattle.roster.proofs.lines_valid.Lts as lts
 use Rattle.record.proofs.valid_line.Reads as valid-line-reads
 
 abbrev invariant-loop : tie.invariant-loop
-invariant-loop t w m i₀ i = (i ≤ m) × (every valid_line (lines_to w t i) ≡ true)
+invariant-loop t m i₀ i = (i ≤ m) × (every valid_line (lines_to t i) ≡ true)
 
 abbrev decreases-loop : tie.decreases-loop
-decreases-loop t w m i₀ i = m - i
+decreases-loop t m i₀ i = m - i
 
 loop-holds : tie.Need-loop-init invariant-loop decreases-loop
 unfolding every up_to
 loop-holds c = (search rules, refl)
 
--- line i lies in the lines
-row : (c : tie.In-loop invariant-loop decreases-loop) → c.before.before.before.args.w * c.before.loop.i + c.before.before.before.args.w ≤ c.before.before.before.args.w * c.before.before.before.args.m
-row c = row_in _ _ _ c.loop-test.true
-
 mul-valid-line : tie.Need-overflow-mul-valid-line invariant-loop decreases-loop
-mul-valid-line c = let r = row c in record { fits = omega arith }
+mul-valid-line c = search rules
 
 valid-line-requires : tie.Need-valid-line-requires invariant-loop decreases-loop
-valid-line-requires c κs = let r = row c in omega arith
+valid-line-requires c κs = search rules
 
 returns : tie.Need-returns invariant-loop decreases-loop
 returns c =

@@ -3,7 +3,6 @@ use Prim.Native.Nat.{◌+◌, ◌-◌, ◌*◌, ◌^◌, ◌≤◌}
 use mathlib.Core.Path.{◌≡◌, refl, sym, ◌∙◌}
 use mathlib.Core.Bool.{true}
 use native.Mathlib.Omega.{arith}
-use Rattle.layout.proofs.WidthLaws.{row_in}
 use borrow.Author.Rules.{rules}
 use Rattle.model.specs.Lists.{every, up_to}
 use Rattle.model.specs.Table.{read_line}
@@ -18,36 +17,29 @@ use Rattle.record.proofs.has_address.Reads as has-address-reads
 use Rattle.roster.proofs.wide.Reads as wide-reads
 
 abbrev invariant-loop : tie.invariant-loop
-invariant-loop t w m hi lo i₀ i = (i ≤ m) × (unlisted (lines_to w t i) (hi * 2 ^ 64 + lo) ≡ true)
+invariant-loop t m hi lo i₀ i = (i ≤ m) × (unlisted (lines_to t i) (hi * 2 ^ 64 + lo) ≡ true)
 
 abbrev decreases-loop : tie.decreases-loop
-decreases-loop t w m hi lo i₀ i = m - i
+decreases-loop t m hi lo i₀ i = m - i
 
 loop-holds : tie.Need-loop-init invariant-loop decreases-loop
 unfolding every up_to
 loop-holds c = (search rules, refl)
 
--- line i lies in the lines
-abbrev Row : tie.In-loop invariant-loop decreases-loop → Type 0
-Row c = let a = c.before.before.before.args in a.w * c.before.loop.i + a.w ≤ a.w * a.m
-
-row : (c : tie.In-loop invariant-loop decreases-loop) → Row c
-row c = let a = c.before.before.before.args in row_in a.w c.before.loop.i a.m c.loop-test.true
-
 mul-a : tie.Need-overflow-mul-a invariant-loop decreases-loop
-mul-a c = let r = row c in record { fits = omega arith }
+mul-a c = search rules
 
 add-has-address : tie.Need-overflow-add-has-address invariant-loop decreases-loop
-add-has-address c = let r = row c in record { fits = omega arith }
+add-has-address c = search rules
 
 has-address-requires : tie.Need-has-address-requires invariant-loop decreases-loop
-has-address-requires c κs = let r = row c in omega arith
+has-address-requires c κs = search rules
 
 add_wide : tie.Need-overflow-add-wide invariant-loop decreases-loop
-add_wide c = let r = row c.before.before in record { fits = omega arith }
+add_wide c = search rules
 
 shared-slice-read-wide : tie.Need-shared-slice-read-wide invariant-loop decreases-loop
-shared-slice-read-wide c = let r = row c.before.before.before in omega arith
+shared-slice-read-wide c = search rules
 
 wide-requires : tie.Need-wide-requires invariant-loop decreases-loop
 wide-requires c κs = search rules

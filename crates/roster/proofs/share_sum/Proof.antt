@@ -2,7 +2,6 @@
 use Prim.Native.Nat.{◌+◌, ◌-◌, ◌*◌, ◌≤◌}
 use mathlib.Core.Path.{◌≡◌, refl}
 use native.Mathlib.Omega.{arith}
-use Rattle.layout.proofs.WidthLaws.{row_in}
 use borrow.Author.Rules.{rules}
 use Rattle.model.specs.Lists.{up_to}
 use Rattle.model.specs.Table.{read_line}
@@ -16,33 +15,29 @@ use Rattle.roster.proofs.share_sum.Lts as lts
 use Rattle.roster.proofs.wide.Reads as wide-reads
 
 abbrev invariant-loop : tie.invariant-loop
-invariant-loop t w m s₀ i₀ s i = (i ≤ m) × (s ≤ 255 * i) × (s ≡ shares (lines_to w t i))
+invariant-loop t m s₀ i₀ s i = (i ≤ m) × (s ≤ 255 * i) × (s ≡ shares (lines_to t i))
 
 abbrev decreases-loop : tie.decreases-loop
-decreases-loop t w m s₀ i₀ s i = m - i
+decreases-loop t m s₀ i₀ s i = m - i
 
 loop-holds : tie.Need-loop-init invariant-loop decreases-loop
 unfolding shares up_to
 loop-holds c = (search rules, search rules, refl)
 
--- line i lies in the lines
-row : (c : tie.In-loop invariant-loop decreases-loop) → c.before.before.before.args.w * c.before.loop.i + c.before.before.before.args.w ≤ c.before.before.before.args.w * c.before.before.before.args.m
-row c = row_in _ _ _ c.loop-test.true
-
 mul_wide : tie.Need-overflow-mul-wide invariant-loop decreases-loop
-mul_wide c = let r = row c in record { fits = omega arith }
+mul_wide c = search rules
 
 add_wide : tie.Need-overflow-add-wide invariant-loop decreases-loop
-add_wide c = let r = row c in record { fits = omega arith }
+add_wide c = search rules
 
 shared-slice-read-wide : tie.Need-shared-slice-read-wide invariant-loop decreases-loop
-shared-slice-read-wide c = let r = row c.before in omega arith
+shared-slice-read-wide c = search rules
 
 wide-requires : tie.Need-wide-requires invariant-loop decreases-loop
 wide-requires c κs = search rules
 
 add-s : tie.Need-overflow-add-s invariant-loop decreases-loop
-add-s c = omega (arith, c.before.shared-slice-known2.given (c.before.before.before.before.before.args.w * c.before.before.before.loop.i + 17))
+add-s c = omega (arith, c.before.shared-slice-known2.given (19 * c.before.before.before.loop.i + 17))
 
 add-i : tie.Need-overflow-add-i invariant-loop decreases-loop
 add-i c = search rules
@@ -54,7 +49,7 @@ loop-again : tie.Need-loop-preserved invariant-loop decreases-loop
 unfolding read_line
 loop-again c =
     let l = c.before.before.before.loop in
-    (omega arith, omega (arith, c.before.shared-slice-known2.given (c.before.before.before.before.before.args.w * l.i + 17)), rw (shares-next _ l.i) (omega arith))
+    (omega arith, omega (arith, c.before.shared-slice-known2.given (19 * l.i + 17)), rw (shares-next _ l.i) (omega arith))
 
 returns : tie.Need-returns invariant-loop decreases-loop
 returns c =

@@ -8,7 +8,6 @@ use Rattle.model.specs.Lists.{every, up_to}
 use Rattle.model.specs.Table.{read_line}
 use Rattle.model.proofs.ListLaws.{every-next}
 use Rattle.layout.specs.Shape.{lines_to}
-use Rattle.layout.proofs.WidthLaws.{row_in}
 use Rattle.layout.proofs.LineLaws.{unlisted, limit-none, limit-hit, share-none, share-hit}
 use Rattle.sound.proofs.address_beyond_share.Statement.{statement}
 use Rattle.sound.proofs.address_beyond_share.Tie as tie
@@ -18,42 +17,35 @@ use Rattle.record.proofs.has_address.Reads as has-address-reads
 use Rattle.sound.proofs.beyond_share.Reads as beyond-share-reads
 
 abbrev invariant-loop : tie.invariant-loop
-invariant-loop lines w m k hi lo i₀ i = (i ≤ m) × (unlisted (lines_to w lines i) (hi * 2 ^ 64 + lo) ≡ true)
+invariant-loop lines m k hi lo i₀ i = (i ≤ m) × (unlisted (lines_to lines i) (hi * 2 ^ 64 + lo) ≡ true)
 
 abbrev decreases-loop : tie.decreases-loop
-decreases-loop lines w m k hi lo i₀ i = m - i
+decreases-loop lines m k hi lo i₀ i = m - i
 
 loop-holds : tie.Need-loop-init invariant-loop decreases-loop
 unfolding every up_to
 loop-holds c = (search rules, refl)
 
--- line i lies in the lines
-abbrev Row : tie.In-loop invariant-loop decreases-loop → Type 0
-Row c = let a = c.before.before.before.args in a.w * c.before.loop.i + a.w ≤ a.w * a.m
-
-row : (c : tie.In-loop invariant-loop decreases-loop) → Row c
-row c = let a = c.before.before.before.args in row_in a.w c.before.loop.i a.m c.loop-test.true
-
 mul-a : tie.Need-overflow-mul-a invariant-loop decreases-loop
-mul-a c = let r = row c in record { fits = omega arith }
+mul-a c = search rules
 
 add-has-address : tie.Need-overflow-add-has-address invariant-loop decreases-loop
-add-has-address c = let r = row c in record { fits = omega arith }
+add-has-address c = search rules
 
 has-address-requires : tie.Need-has-address-requires invariant-loop decreases-loop
-has-address-requires c κs = let r = row c in omega arith
+has-address-requires c κs = search rules
 
 add-beyond-share : tie.Need-overflow-add-beyond-share invariant-loop decreases-loop
-add-beyond-share c = let r = row c.before.before in record { fits = omega arith }
+add-beyond-share c = search rules
 
 shared-slice-read-beyond-share : tie.Need-shared-slice-read-beyond-share invariant-loop decreases-loop
-shared-slice-read-beyond-share c = let r = row c.before.before.before in omega arith
+shared-slice-read-beyond-share c = search rules
 
 add-beyond-share-2 : tie.Need-overflow-add-beyond-share-2 invariant-loop decreases-loop
-add-beyond-share-2 c = let r = row c.before.before.before in record { fits = omega arith }
+add-beyond-share-2 c = search rules
 
 shared-slice-read-beyond-share-2 : tie.Need-shared-slice-read-beyond-share-2 invariant-loop decreases-loop
-shared-slice-read-beyond-share-2 c = let r = row c.before.before.before.before in omega arith
+shared-slice-read-beyond-share-2 c = search rules
 
 beyond-share-requires : tie.Need-beyond-share-requires invariant-loop decreases-loop
 beyond-share-requires c κs = search rules

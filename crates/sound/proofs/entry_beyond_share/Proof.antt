@@ -27,12 +27,12 @@ use Rattle.record.proofs.same_asked.Reads as same-asked-reads
 use Rattle.sound.proofs.address_beyond_share.Reads as address-beyond-share-reads
 
 abbrev invariant-loop : tie.invariant-loop
-invariant-loop lines slots i w m c number hi lo k₀ a₀ k a =
+invariant-loop lines slots i m c number hi lo k₀ a₀ k a =
     (j : ℕ) × (a ≡ 320 * j) × (j ≤ i) × (k ≤ j) × (every (λ h. not (numbered number.0 h)) (held_to 0 slots j) ≡ true)
     × (every (λ h. not (same_question h (holding_at 0 slots (320 * i)))) (held_to 0 slots j) ≡ true) × (k ≡ count (held_to 0 slots j) (held_by (hi * 2 ^ 64 + lo)))
 
 abbrev decreases-loop : tie.decreases-loop
-decreases-loop lines slots i w m c number hi lo k₀ a₀ k a = 320 * i - a
+decreases-loop lines slots i m c number hi lo k₀ a₀ k a = 320 * i - a
 
 mul-c : tie.Need-overflow-mul-c invariant-loop decreases-loop
 mul-c c = search rules
@@ -138,8 +138,7 @@ loop-again c =
 address-beyond-share-requires : tie.Need-address-beyond-share-requires invariant-loop decreases-loop
 address-beyond-share-requires c κs =
     let l = c.before.loop in
-    let p = c.before.before.before.before.before.before.before.requires in
-    (omega (arith, l.invariant.2, l.invariant.3), p.2, p.4)
+    (omega (arith, l.invariant.2, l.invariant.3), search rules)
 
 returns-3 : tie.Need-returns-3 invariant-loop decreases-loop
 unfolding holding_at read_entry

@@ -22,18 +22,18 @@ use Rattle.record.proofs.in_use.Reads as in-use-reads
 use Rattle.sound.proofs.entry_beyond_share.Reads as entry-beyond-share-reads
 
 abbrev invariant-loop : tie.invariant-loop
-invariant-loop lines slots n w m shares k₀ i₀ k i =
-    (i ≤ n) × (k ≤ shares + i) × (no_two same_number (held_to 0 slots i) ≡ true) × (holders_sound slots (lines_to w lines m) i ≡ true)
-    × (k ≡ reserve (lines_to w lines m) (count (held_to 0 slots i)) + count (held_to 0 slots i) any)
+invariant-loop lines slots n m shares k₀ i₀ k i =
+    (i ≤ n) × (k ≤ shares + i) × (no_two same_number (held_to 0 slots i) ≡ true) × (holders_sound slots (lines_to lines m) i ≡ true)
+    × (k ≡ reserve (lines_to lines m) (count (held_to 0 slots i)) + count (held_to 0 slots i) any)
 
 abbrev decreases-loop : tie.decreases-loop
-decreases-loop lines slots n w m shares k₀ i₀ k i = n - i
+decreases-loop lines slots n m shares k₀ i₀ k i = n - i
 
 loop-holds : tie.Need-loop-init invariant-loop decreases-loop
 unfolding every no_two
 loop-holds c =
     let z = c.before.before in
-    (search rules, search rules, rw held_none, rw held_none, z.requires.5 ∙ reserve-start 0 z.args.slots.now (lines_to z.args.w z.args.lines.now z.args.m))
+    (search rules, search rules, rw held_none, rw held_none, z.requires.5 ∙ reserve-start 0 z.args.slots.now (lines_to z.args.lines.now z.args.m))
 
 mul-in-use : tie.Need-overflow-mul-in-use invariant-loop decreases-loop
 mul-in-use c = search rules
@@ -53,7 +53,7 @@ returns c =
     let l = c.before.before.before.before.before.before.loop in
     let u = sym c.before.before.before.in_use.ensures ∙ c.before.before.if1.true in
     let x = c.before.entry-beyond-share in
-    sym (beyond-no z.args.slots.now l.i u (lines_to z.args.w z.args.lines.now z.args.m) z.requires.6 x.result x.ensures z.args.n (omega arith) (omega arith))
+    sym (beyond-no z.args.slots.now l.i u (lines_to z.args.lines.now z.args.m) z.requires.6 x.result x.ensures z.args.n (omega arith) (omega arith))
 
 add-k : tie.Need-overflow-add-k invariant-loop decreases-loop
 add-k c = search rules
@@ -73,7 +73,7 @@ loop-again c =
     ⊎_elim
     (λ w.
     let x = w.1 in
-    let y = beyond-yes t l.i (u ∙ w.0.taken) (lines_to z.args.w z.args.lines.now z.args.m) z.requires.6 x.result x.ensures l.k (omega arith) z.requires.7 l.invariant.2 l.invariant.3 l.invariant.4 in
+    let y = beyond-yes t l.i (u ∙ w.0.taken) (lines_to z.args.lines.now z.args.m) z.requires.6 x.result x.ensures l.k (omega arith) z.requires.7 l.invariant.2 l.invariant.3 l.invariant.4 in
     (omega arith, omega arith, y.0, y.1, rw w.3 y.2))
     (λ w.
     let h = held-miss 0 t l.i (u ∙ w.0.left) in

@@ -27,17 +27,17 @@ use Rattle.record.proofs.same_asked.Reads as same-asked-reads
 use Rattle.sound.proofs.may_add.Reads as may-add-reads
 
 abbrev invariant-loop : tie.invariant-loop
-invariant-loop lines slots from i c w m hi lo k₀ j₀ k j = (j ≤ i) × (k ≤ j) × (every (λ h. not (same_question h (holding_at 0 slots c))) (held_to 0 slots j) ≡ true) × (k ≡ count (held_to 0 slots j) (held_by (hi * 2 ^ 64 + lo)))
+invariant-loop lines slots from i c m hi lo k₀ j₀ k j = (j ≤ i) × (k ≤ j) × (every (λ h. not (same_question h (holding_at 0 slots c))) (held_to 0 slots j) ≡ true) × (k ≡ count (held_to 0 slots j) (held_by (hi * 2 ^ 64 + lo)))
 
 abbrev decreases-loop : tie.decreases-loop
-decreases-loop lines slots from i c w m hi lo k₀ j₀ k j = i - j
+decreases-loop lines slots from i c m hi lo k₀ j₀ k j = i - j
 
 returns : tie.Need-returns invariant-loop decreases-loop
 returns c =
     let z = c.before.before.before in
     let k = holding_at 0 z.args.slots.now z.args.c in
     let e : z.args.from ≡ z.args.i = omega arith in
-    sym (fits-none z.args.slots.now (lines_to z.args.w z.args.lines.now z.args.m) z.args.i k z.requires.6 (rw e at z.requires.7))
+    sym (fits-none z.args.slots.now (lines_to z.args.lines.now z.args.m) z.args.i k z.requires.6 (rw e at z.requires.7))
 
 add-get64 : tie.Need-overflow-add-get64 invariant-loop decreases-loop
 add-get64 c = search rules

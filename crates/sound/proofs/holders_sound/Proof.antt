@@ -24,10 +24,10 @@ use Rattle.sound.proofs.earlier.Reads as earlier-reads
 use Rattle.sound.proofs.holder_sound.Reads as holder-sound-reads
 
 abbrev invariant-loop : tie.invariant-loop
-invariant-loop lines slots n w m first₀ i₀ first i = (i ≤ n) × (length first ≡ 256) × (holders_sound slots (lines_to w lines m) i ≡ true) × Firsts address_key slots i first
+invariant-loop lines slots n m first₀ i₀ first i = (i ≤ n) × (length first ≡ 256) × (holders_sound slots (lines_to lines m) i ≡ true) × Firsts address_key slots i first
 
 abbrev decreases-loop : tie.decreases-loop
-decreases-loop lines slots n w m first₀ i₀ first i = n - i
+decreases-loop lines slots n m first₀ i₀ first i = n - i
 
 loop-holds : tie.Need-loop-init invariant-loop decreases-loop
 unfolding every no_two
@@ -73,14 +73,14 @@ holder-sound-requires c κs =
     let l = c.before.before.before.before.before.before.loop in
     let t = c.before.before.before.before.before.before.before.before.before.args.slots.now in
     let e = address-ends t (320 * l.i) (λ i. omega (arith, c.before.before.before.before.before.before.before.shared-slice-known2.given i)) in
-    (omega arith, omega arith, omega arith, omega arith, omega arith, omega arith, c.before.before.before.before.before.before.before.before.before.requires.4, none-holds t l.i _ _ l.first c.earlier.ensures _ e l.invariant.3, c.before.before.before.before.before.before.before.before.before.requires.5)
+    (omega arith, omega arith, omega arith, omega arith, omega arith, omega arith, c.before.before.before.before.before.before.before.before.before.requires.4, none-holds t l.i _ _ l.first c.earlier.ensures _ e l.invariant.3)
 
 returns : tie.Need-returns invariant-loop decreases-loop
 returns c =
     let l = c.before.before.before.before.before.before.before.before.loop in
     let a = c.before.before.before.before.before.before.before.before.before.before.before.args in
     let u = sym c.before.before.before.before.before.in_use.ensures ∙ c.before.before.before.before.if1.true in
-    sym (holder-no a.slots.now l.i u (lines_to a.w a.lines.now a.m) a.n (omega arith) (sym c.before.holder-sound.ensures ∙ not-true _ c.if2.true))
+    sym (holder-no a.slots.now l.i u (lines_to a.lines.now a.m) a.n (omega arith) (sym c.before.holder-sound.ensures ∙ not-true _ c.if2.true))
 
 add-i : tie.Need-overflow-add-i invariant-loop decreases-loop
 add-i c = search rules
@@ -99,7 +99,7 @@ loop-again c =
     (λ w.
     let e = address-ends t (320 * l.i) (λ i. omega (arith, c.before.before.before.before.before.shared-slice-known2.given i)) in
     let f = firsts-held address_key t l.i _ _ l.first (sym e) w.2.ensures (omega (arith, w.1.given (320 * l.i + 16))) l.invariant.3 in
-    let s = holder-yes t l.i (u ∙ w.0.taken) (lines_to a.w a.lines.now a.m) (sym w.3.ensures ∙ not-false _ w.4.left) l.invariant.2 in
+    let s = holder-yes t l.i (u ∙ w.0.taken) (lines_to a.lines.now a.m) (sym w.3.ensures ∙ not-false _ w.4.left) l.invariant.2 in
     (omega arith, rw (w.5, length-set) l.invariant.1, s, rw w.5 f))
     (λ w.
     let f = firsts-free address_key t l.i l.first (u ∙ w.0.left) l.invariant.3 in

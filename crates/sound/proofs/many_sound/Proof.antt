@@ -5,11 +5,8 @@ use native.Mathlib.Omega.{arith}
 use borrow.Author.Tests.{not-true, not-false, le-leb}
 use Rattle.model.specs.Lists.{count, any}
 use Rattle.model.specs.Rules.{reserve}
-use Rattle.model.specs.Table.{line_size}
 use Rattle.layout.specs.Shape.{lines_to}
-use Rattle.layout.specs.Forms.{form_of}
 use Rattle.layout.specs.Held.{held_to}
-use Rattle.layout.proofs.WidthLaws.{line-least}
 use Rattle.layout.proofs.HeldLaws.{count_most}
 use borrow.Author.Rules.{rules}
 use Rattle.sound.proofs.many_sound.Statement.{statement}
@@ -18,7 +15,6 @@ use Rattle.sound.proofs.many_sound.Reads as reads
 use Rattle.sound.proofs.many_sound.Lts as lts
 use Rattle.holdings.proofs.held.Reads as held_reads
 use Rattle.holdings.proofs.reserve_of.Reads as reserve-of-reads
-use Rattle.layout.proofs.line_size.Reads as line-size-reads
 use Rattle.sound.proofs.holders_sound.Reads as holders-sound-reads
 use Rattle.sound.proofs.numbers_apart.Reads as numbers-apart-reads
 
@@ -28,20 +24,14 @@ numbers-apart-requires c κs = search rules
 returns : tie.Need-returns
 returns c = rw (sym c.before.Numbers-apart.ensures ∙ not-true _ c.if1.true)
 
-line-size-requires : tie.Need-line-size-requires
-line-size-requires c κs = search rules
-
 holders-sound-requires : tie.Need-holders-sound-requires
-holders-sound-requires c κs =
-    let z = c.before.before.before.before.before in
-    let e = c.line-size.ensures in
-    (z.requires.0, z.requires.1, rw e z.requires.2, z.requires.3, rw e z.requires.4, rw e (line-least (form_of z.args.form)))
+holders-sound-requires c κs = search rules
 
 returns-2 : tie.Need-returns-2
 returns-2 c =
     rw (
-      sym c.before.before.before.before.Numbers-apart.ensures ∙ not-false _ c.before.before.before.if1.false,
-      sym (rw c.before.before.line-size.ensures at c.before.holders-sound.ensures) ∙ not-true _ c.if2.true,
+      sym c.before.before.before.Numbers-apart.ensures ∙ not-false _ c.before.before.if1.false,
+      sym c.before.holders-sound.ensures ∙ not-true _ c.if2.true,
     )
 
 reserve-of-requires : tie.Need-reserve-of-requires
@@ -49,11 +39,11 @@ reserve-of-requires c κs = search rules
 
 returns-3 : tie.Need-returns-3
 returns-3 c =
-    let a = c.before.before.before.before.before.before.before.before.before.args in
-    let r : reserve (lines_to (line_size (form_of a.form)) a.lines.now a.m) (count (held_to 0 a.slots.now a.n)) ≡ 0 = sym c.before.reserve-of.ensures.1 ∙ c.if3.true in
+    let a = c.before.before.before.before.before.before.before.before.args in
+    let r : reserve (lines_to a.lines.now a.m) (count (held_to 0 a.slots.now a.n)) ≡ 0 = sym c.before.reserve-of.ensures.1 ∙ c.if3.true in
     rw (
-      sym c.before.before.before.before.before.before.Numbers-apart.ensures ∙ not-false _ c.before.before.before.before.before.if1.false,
-      sym (rw c.before.before.before.before.line-size.ensures at c.before.before.before.holders-sound.ensures) ∙ not-false _ c.before.before.if2.false,
+      sym c.before.before.before.before.before.Numbers-apart.ensures ∙ not-false _ c.before.before.before.before.if1.false,
+      sym c.before.before.before.holders-sound.ensures ∙ not-false _ c.before.before.if2.false,
       r,
     )
     (sym (le-leb (0 + count (held_to 0 a.slots.now a.n) any) a.n (omega (arith, count_most 0 a.slots.now any a.n))))
@@ -67,8 +57,8 @@ add-result c = search rules
 returns-4 : tie.Need-returns-4
 returns-4 c =
     rw (
-      sym c.before.before.before.before.before.before.before.Numbers-apart.ensures ∙ not-false _ c.before.before.before.before.before.before.if1.false,
-      sym (rw c.before.before.before.before.before.line-size.ensures at c.before.before.before.before.holders-sound.ensures) ∙ not-false _ c.before.before.before.if2.false,
+      sym c.before.before.before.before.before.before.Numbers-apart.ensures ∙ not-false _ c.before.before.before.before.before.if1.false,
+      sym c.before.before.before.before.holders-sound.ensures ∙ not-false _ c.before.before.before.if2.false,
       c.before.before.reserve-of.ensures.1,
       c.held.ensures.1,
     )
@@ -79,7 +69,6 @@ many-sound-spec =
     (tie.spec
     numbers-apart-requires
     returns
-    line-size-requires
     holders-sound-requires
     returns-2
     reserve-of-requires

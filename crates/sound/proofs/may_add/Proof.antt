@@ -21,7 +21,7 @@ below k m = iff (ltb k m) (leb (k + 1) m) (λ e. le-leb (k + 1) m (omega (arith,
 returns : tie.Need-returns
 returns c =
     let a = c.before.before.args in
-    let ls = lines_to a.w a.lines.now a.m in
+    let ls = lines_to a.lines.now a.m in
     let x = a.hi * 2 ^ 64 + a.lo in
     let m : 1 ≤ limit_of ls x = limit-min ls x c.before.before.requires.3 in
     sym (le-leb (a.k + 1) (limit_of ls x) (omega arith))

@@ -3,68 +3,47 @@ use mathlib.Core.Path.{sym, ◌∙◌}
 use native.Mathlib.Omega.{arith}
 use borrow.Author.Tests.{not-true, not-false, le-leb, lt-leb}
 use Rattle.model.specs.Lists.{every, no_two}
-use Rattle.model.specs.Table.{line_size}
 use Rattle.model.specs.Sound.{valid_line, same_address, sound_roster}
 use Rattle.model.proofs.ListLaws.{and_left, and_right}
 use Rattle.layout.specs.Shape.{lines_to}
-use Rattle.layout.specs.Forms.{form_of}
-use Rattle.layout.proofs.WidthLaws.{line-least}
 use borrow.Author.Rules.{rules}
 use Rattle.sound.proofs.rules_sound.Statement.{statement}
 use Rattle.sound.proofs.rules_sound.Tie as tie
 use Rattle.sound.proofs.rules_sound.Reads as reads
 use Rattle.sound.proofs.rules_sound.Lts as lts
-use Rattle.layout.proofs.line_size.Reads as line-size-reads
 use Rattle.roster.proofs.lines_good.Reads as lines-good-reads
 use Rattle.roster.proofs.share_sum.Reads as share-sum-reads
 use Rattle.sound.proofs.holdings_sound.Reads as holdings-sound-reads
 
-line-size-requires : tie.Need-line-size-requires
-line-size-requires c κs = search rules
-
 lines-good-requires : tie.Need-lines-good-requires
-lines-good-requires c κs =
-    let z = c.before.before.before in
-    let e = c.line-size.ensures in
-    (z.requires.1, rw e z.requires.2, rw e (line-least (form_of z.args.form)))
+lines-good-requires c κs = search rules
 
 returns : tie.Need-returns
 unfolding sound_roster
-returns c = rw (sym (rw c.before.before.line-size.ensures at c.before.lines-good.ensures) ∙ not-true _ c.if1.true)
+returns c = rw (sym c.before.lines-good.ensures ∙ not-true _ c.if1.true)
 
 share-sum-requires : tie.Need-share-sum-requires
-share-sum-requires c κs =
-    let z = c.before.before.before.before.before in
-    let e = c.before.before.line-size.ensures in
-    (z.requires.1, rw e z.requires.2, rw e (line-least (form_of z.args.form)))
+share-sum-requires c κs = search rules
 
 returns-2 : tie.Need-returns-2
 unfolding sound_roster
 returns-2 c =
-    let e = c.before.before.before.before.line-size.ensures in
-    rw (
-      sym (rw e at c.before.before.before.lines-good.ensures) ∙ not-false _ c.before.before.if1.false,
-      sym (rw e at c.before.share-sum.ensures),
-      lt-leb _ _ c.if2.true,
-    )
+    rw (sym c.before.before.before.lines-good.ensures ∙ not-false _ c.before.before.if1.false, ← c.before.share-sum.ensures, lt-leb _ _ c.if2.true)
 
 holdings-sound-requires : tie.Need-holdings-sound-requires
 holdings-sound-requires c κs =
-    let z = c.before.before.before.before.before.before.before in
-    let e = c.before.before.before.before.line-size.ensures in
-    let g = sym (rw e at c.before.before.before.lines-good.ensures) ∙ not-false _ c.before.before.if1.false in
-    let ls = lines_to (line_size (form_of z.args.form)) z.args.lines.now z.args.m in
-    let v = every valid_line ls in
-    let d = no_two same_address ls in
-    (z.requires.0, z.requires.1, z.requires.2, z.requires.3, omega arith, rw e at c.before.share-sum.ensures, and_left v d g, and_right v d g, z.requires.4)
+    let e = sym c.before.before.before.lines-good.ensures ∙ not-false _ c.before.before.if1.false in
+    let a = c.before.before.before.before.before.before.args in
+    let v = every valid_line (lines_to a.lines.now a.m) in
+    let d = no_two same_address (lines_to a.lines.now a.m) in
+    (omega arith, omega arith, omega arith, omega arith, omega arith, c.before.share-sum.ensures, and_left v d e, and_right v d e)
 
 returns-3 : tie.Need-returns-3
 unfolding sound_roster
 returns-3 c =
-    let e = c.before.before.before.before.before.line-size.ensures in
     rw (
-      sym (rw e at c.before.before.before.before.lines-good.ensures) ∙ not-false _ c.before.before.before.if1.false,
-      sym (rw e at c.before.before.share-sum.ensures),
+      sym c.before.before.before.before.lines-good.ensures ∙ not-false _ c.before.before.before.if1.false,
+      ← c.before.before.share-sum.ensures,
       le-leb _ _ c.before.if2.false,
     )
     c.holdings-sound.ensures
@@ -73,7 +52,6 @@ pub rules-sound-spec : {M : Type 1} → statement M
 rules-sound-spec =
     tie.close
     (tie.spec
-    line-size-requires
     lines-good-requires
     returns
     share-sum-requires

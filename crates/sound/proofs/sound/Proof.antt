@@ -1,15 +1,16 @@
 -- `sound::sound` meets its contract: the length, the clock record, then lines and slots. Assumes nothing.
-use Prim.Native.Nat.{ℕ, ◌≤◌}
-use mathlib.Core.Path.{◌≡◌, sym, ap, ◌∙◌}
+use Prim.Native.Nat.{ℕ}
+use mathlib.Core.Path.{◌≡◌, refl, sym, ap, ◌∙◌}
 use mathlib.Core.Bool.{◌&&◌}
 use mathlib.Core.List.{List}
 use native.Mathlib.Omega.{arith}
 use borrow.Author.Tests.{not-true, not-false, eq-eqb, ne_eqb, lt-ltb, le-ltb}
 use lib.ListN.{length, get_or, drop}
+use lib.Seq.{drop-drop}
 use lib.Dec.{eqb, ltb}
 use Rattle.model.specs.Numbers.{big_endian}
 use Rattle.model.specs.Clock.{Clock, cycle_of}
-use Rattle.model.specs.Table.{Layout, line_size, clock_kind, place_bytes, running_at, lines_at, base, layout_of}
+use Rattle.model.specs.Table.{Layout, clock_kind, place_bytes, running_at, lines_at, base, layout_of}
 use Rattle.model.specs.Sound.{sound_bytes}
 use Rattle.layout.specs.Shape.{parts_shape}
 use Rattle.layout.specs.Held.{rules_of}
@@ -36,15 +37,11 @@ Tests b n l =
     sound_bytes b
     ≡ eqb (get_or b 0 0) (clock_kind l)
     && (ltb (big_endian b 1 (place_bytes l)) (cycle_of l.weeks)
-    && (parts_shape l.lines (drop (lines_at l) b) (drop (base l) b) n && rules_of l.lines (big_endian b (running_at l) 4) (drop (lines_at l) b) (drop (base l) b) n))
+    && (parts_shape (drop (lines_at l) b) (drop (base l) b) n && rules_of (big_endian b (running_at l) 4) (drop (lines_at l) b) (drop (base l) b) n))
 
 -- the length is a table's
 sized : (c : tie.Else1) → LengthFacts (length c.before.before.before.args.t.now)
 sized c = length-facts (length c.before.before.before.args.t.now) (sym c.before.table-length.ensures ∙ not-false _ c.if1.false)
-
--- lines and slots start in it
-starts : (c : tie.Else1) → (c.before.before.before.args.l.lines_at ≤ length c.before.before.before.args.t.now) × (c.before.before.before.args.l.slots_at ≤ length c.before.before.before.args.t.now)
-starts c = let r = sized c in let p = c.before.before.before.requires in (omega arith, omega arith)
 
 -- what is left to test
 whole : (c : tie.Else1) → Tests c.before.before.before.args.t.now c.before.before.before.args.l.n (layout_of (length c.before.before.before.args.t.now))
@@ -78,7 +75,9 @@ returns-2 c =
 clock-at-requires : tie.Need-clock-at-requires
 clock-at-requires c κs =
     let at = c.before.before.before in
-    (at.before.before.before.requires, (starts at).1)
+    let r = sized at in
+    let p = at.before.before.before.requires in
+    (p, omega arith)
 
 cycle-requires : tie.Need-cycle-requires
 cycle-requires c κs = search rules
@@ -95,56 +94,51 @@ returns-3 c =
 cast-a : tie.Need-overflow-cast-a
 cast-a c = search rules
 
-cast-z : tie.Need-overflow-cast-z
-cast-z c = search rules
+sub-lines : tie.Need-overflow-sub-lines
+sub-lines c = let r = sized c.before.before.before.before.before.before.before.before in omega (arith, c.before.before.before.before.before.before.before.before.before.before.before.requires)
+
+part-lines-start : tie.Need-slice-bounds-lines-start
+part-lines-start c = let r = sized c.before.before.before.before.before.before.before.before in omega (arith, c.before.before.before.before.before.before.before.before.before.before.before.requires)
+
+part-lines-end : tie.Need-slice-bounds-lines-end
+part-lines-end c = search rules
 
 sub-parts-sound : tie.Need-overflow-sub-parts-sound
-sub-parts-sound c = let h = starts c.before.before.before.before.before.before.before.before.before in omega arith
+sub-parts-sound c = let r = sized c.before.before.before.before.before.before.before.before.before in omega (arith, c.before.before.before.before.before.before.before.before.before.before.before.before.requires)
 
 part-parts-sound-start : tie.Need-slice-bounds-parts-sound-start
-part-parts-sound-start c = let h = starts c.before.before.before.before.before.before.before.before.before in omega arith
+part-parts-sound-start c = let r = sized c.before.before.before.before.before.before.before.before.before in omega (arith, c.before.before.before.before.before.before.before.before.before.before.before.before.requires)
 
 part-parts-sound-end : tie.Need-slice-bounds-parts-sound-end
 part-parts-sound-end c = search rules
 
-sub-parts-sound-2 : tie.Need-overflow-sub-parts-sound-2
-sub-parts-sound-2 c = let h = starts c.before.before.before.before.before.before.before.before.before.before in omega arith
-
-part-parts-sound-start-2 : tie.Need-slice-bounds-parts-sound-start-2
-part-parts-sound-start-2 c = let h = starts c.before.before.before.before.before.before.before.before.before.before in omega arith
-
-part-parts-sound-end-2 : tie.Need-slice-bounds-parts-sound-end-2
-part-parts-sound-end-2 c = search rules
-
 parts-sound-requires : tie.Need-parts-sound-requires
 parts-sound-requires c κs =
-    let at = c.before.before.before.before.before.before.before.before.before.before.before in
+    let at = c.before.before.before.before.before.before.before.before.before.before in
     let r = sized at in
     let p = at.before.before.before.requires in
-    let g = ap (λ (l : Layout). line_size l.lines) p.0 in
-    (omega arith, omega (arith, g), omega arith)
+    (omega arith, omega arith, omega arith)
 
 returns-4 : tie.Need-returns-4
 returns-4 c =
-    let at = c.before.before.before.before.before.before.before.before.before.before.before.before in
+    let at = c.before.before.before.before.before.before.before.before.before.before.before in
     let z = at.before.before.before in
     let t = z.args.t.now in
-    let k = c.before.before.before.before.before.before.before.before.before.before.clock-kind.ensures ∙ ap clock_kind z.requires.0 in
-    let y = c.before.before.before.before.before.before.before.cycle.ensures ∙ ap (λ (l : Layout). cycle_of l.weeks) z.requires.0 in
-    let e = c.before.before.before.before.before.before.before.before.clock-at.ensures in
+    let k = c.before.before.before.before.before.before.before.before.before.clock-kind.ensures ∙ ap clock_kind z.requires.0 in
+    let y = c.before.before.before.before.before.before.cycle.ensures ∙ ap (λ (l : Layout). cycle_of l.weeks) z.requires.0 in
+    let e = c.before.before.before.before.before.before.before.clock-at.ensures in
     let q = ap (λ (x : Clock). x.place) e ∙ place_read t in
     let u = ap (λ (x : Clock). x.running) e ∙ running-read t in
-    let f = ap (λ (l : Layout). l.lines) z.requires.0 in
     sym (whole at
     ∙ (rw (
       ← k,
-      eq-eqb _ _ c.before.before.before.before.before.before.before.before.before.if2.false,
+      eq-eqb _ _ c.before.before.before.before.before.before.before.before.if2.false,
       ← y,
       ← q,
-      lt-ltb _ _ c.before.before.before.before.before.if3.false,
+      lt-ltb _ _ c.before.before.before.before.if3.false,
       ← u,
     )
-    (sym (rw (tail-is t z.requires.1, tail-is t z.requires.2, f) at c.parts-sound.ensures))))
+    (sym (rw (tail-is t z.requires.1, tail-is (drop (lines_at (layout_of (length t))) t) refl, drop-drop) at c.parts-sound.ensures))))
 
 pub sound-spec : {M : Type 1} → statement M
 sound-spec =
@@ -159,12 +153,11 @@ sound-spec =
     cycle-requires
     returns-3
     cast-a
-    cast-z
+    sub-lines
+    part-lines-start
+    part-lines-end
     sub-parts-sound
     part-parts-sound-start
     part-parts-sound-end
-    sub-parts-sound-2
-    part-parts-sound-start-2
-    part-parts-sound-end-2
     parts-sound-requires
     returns-4)

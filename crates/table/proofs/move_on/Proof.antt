@@ -6,13 +6,12 @@ use mathlib.Core.List.{List}
 use lib.ListN.{length}
 use Rattle.model.specs.Clock.{Clock, cycle_of, advance}
 use Rattle.model.specs.Numbers.{Bytes, splice, encode}
-use Rattle.model.specs.Table.{Layout, place_bytes, size_of, layout_of, cycle_in, read_table}
+use Rattle.model.specs.Table.{Layout, place_bytes, base, size_of, layout_of, cycle_in, read_table}
 use Rattle.model.proofs.ClockLaws.{advance-place}
 use Rattle.model.proofs.TableLaws.{clock_fields}
 use Rattle.model.proofs.Meaning.{layout-read}
 use Rattle.model.proofs.StepLaws.{cycle-fits}
 use Rattle.layout.specs.Weeks.{weeks_of}
-use Rattle.layout.specs.Places.{layout_in, LayoutFor}
 use Rattle.clock.specs.Clock.{clock_of}
 use Rattle.table.proofs.WriteLaws as law
 use Rattle.table.proofs.SweepLaws as sweep
@@ -69,7 +68,7 @@ module _ (c : tie.After-advanced) where
   running-fits = omega (arith, c)
 
   -- the bytes that `put_clock` wrote
-  pub by_layout : (x : List ℕ) → x ≡ splice 1 (place_bytes (layout_in k.before.args.l) + 4) (encode (clock_fields (layout_in k.before.args.l) (clock_of c.advanced.result))) t
+  pub by_layout : (x : List ℕ) → x ≡ splice 1 (place_bytes (record { weeks = weeks_of k.before.args.l.weeks }) + 4) (encode (clock_fields (record { weeks = weeks_of k.before.args.l.weeks }) (clock_of c.advanced.result))) t
       → x ≡ splice 1 (place_bytes (layout_of (length t)) + 4) (encode (clock_fields (layout_of (length t)) (clock_of c.advanced.result))) t
   by_layout x e = e ∙ ap (λ (y : Layout). splice 1 (place_bytes y + 4) (encode (clock_fields y (clock_of c.advanced.result))) t) k.before.pre.1.0
 
@@ -100,27 +99,45 @@ returns c =
     sweep.stays z.args.t.now (bytes n) z.requires.0 (clock_of d.advanced.result) (place-fits d) (running-fits d) _ (by_layout d _ c.before.before.before.before.before.put-clock.ensures) z.args.place (moved_to d)
     (rw (c.if1.true, r) z.requires.4)
 
+cast-a : tie.Need-overflow-cast-a
+cast-a c = search rules
+
+sub-free-run-out : tie.Need-overflow-sub-free-run-out
+sub-free-run-out c = let l = sized c.before.before.before.before.before.before.before.before.before.before.before in omega (arith, c.before.before.before.before.before.before.before.before.before.before.before.before.requires, c.before.before.before.before.before.before.put-clock.auto)
+
+part-free-run-out-start : tie.Need-slice-bounds-free-run-out-start
+part-free-run-out-start c = let l = sized c.before.before.before.before.before.before.before.before.before.before.before in omega (arith, c.before.before.before.before.before.before.before.before.before.before.before.before.requires, c.before.before.before.before.before.before.put-clock.auto)
+
+part-free-run-out-end : tie.Need-slice-bounds-free-run-out-end
+part-free-run-out-end c = search rules
+
 free-run-out-requires : tie.Need-free-run-out-requires
 free-run-out-requires c κs =
-    let d = c.before.before.before.before.before.before.before.before in
-    let n = d.before.before.before in
+    let d = c.before.before.before.before.before.before.before.before.before in
+    let n = c.before.before.before.before.before.before.before.before.before.before.before.before in
     let z = n.before in
-    let w = c.before.before.before.before.before.before.put-clock in (
-      sweep.clock-formed z.args.t.now (bytes n) z.requires.0 (clock_of d.advanced.result) (place-fits d) (running-fits d) _ (by_layout d _ w.ensures),
-      subst (LayoutFor z.args.l) (sym w.auto.0) z.requires.1,
-      z.requires.5,
-    )
+    let w = c.before.before.before.before.before.before.before.put-clock in
+    let l = sized n in
+    let f = sweep.clock-formed z.args.t.now (bytes n) z.requires.0 (clock_of d.advanced.result) (place-fits d) (running-fits d) _ (by_layout d _ w.ensures) in
+    (omega (arith, z.requires, w.auto), law.lent-formed f (λ j. omega (arith, c.before.before.before.before.before.slice-known2.given j)) z.args.l.n (rw w.auto.0 l) (rw w.auto.0 z.requires.1.2))
 
 same-length-2 : tie.Need-same-length-2
 same-length-2 c = search rules
 
 returns-2 : tie.Need-returns-2
 returns-2 c =
-    let d = c.before.before.before.before.before.before.before.before.before.before.before in
-    let n = d.before.before.before in
+    let d = c.before.before.before.before.before.before.before.before.before.before.before.before in
+    let n = c.before.before.before.before.before.before.before.before.before.before.before.before.before.before.before in
     let z = n.before in
-    let e = by_layout d _ c.before.before.before.before.before.before.before.before.before.put-clock.ensures in
-    sweep.moved z.args.t.now (bytes n) z.requires.0 (clock_of d.advanced.result) (place-fits d) (running-fits d) _ e z.args.place (moved_to d) _ _ c.before.before.free-run-out.ensures
+    let w = c.before.before.before.before.before.before.before.before.before.before.put-clock in
+    let t = z.args.t.now in
+    let e = by_layout d _ w.ensures in
+    let f = sweep.clock-formed t (bytes n) z.requires.0 (clock_of d.advanced.result) (place-fits d) (running-fits d) _ e in
+    let r = sweep.clock-running t (bytes n) z.requires.0 (clock_of d.advanced.result) (place-fits d) (running-fits d) _ e in
+    sweep.moved t (bytes n) z.requires.0 (clock_of d.advanced.result) (place-fits d) (running-fits d) _ e z.args.place (moved_to d) _ _
+    (sweep.table-swept _ (λ j. omega (arith, c.before.before.before.before.before.before.before.before.slice-known2.given j)) f z.args.l.n d.advanced.result.running (rw w.auto.0 (sized n)) r _ _
+    (sweep.lent-swept _ z.args.l.n d.advanced.result.running
+    (subst (λ (m : ℕ). z.args.l.slots_at ≡ base (layout_of m)) (sym w.auto.0) z.requires.1.2) c.before.before.free-run-out.ensures))
 
 pub move-on-spec : {M : Type 1} → statement M
 move-on-spec =
@@ -131,6 +148,10 @@ move-on-spec =
     put-clock-requires
     same_length
     returns
+    cast-a
+    sub-free-run-out
+    part-free-run-out-start
+    part-free-run-out-end
     free-run-out-requires
     same-length-2
     returns-2)
