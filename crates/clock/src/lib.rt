@@ -23,7 +23,7 @@ const THIRTEEN_HALF: u64 = THIRTEEN_CYCLE / 2;
 const SLACK: i64 = 60;
 
 // The last place and the running count.
-#[derive(Drop)]
+#[derive(Clone, Copy)]
 pub struct Clock {
     pub place: u64,
     pub running: u32,

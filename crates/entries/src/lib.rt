@@ -14,7 +14,7 @@ use record::State;
 use wire::{LlqNumber, Question};
 
 // Who sent the datagram: an address in two halves, and a port.
-#[derive(Drop)]
+#[derive(Clone, Copy)]
 pub struct Sender {
     pub high: u64,
     pub low: u64,
@@ -22,7 +22,7 @@ pub struct Sender {
 }
 
 // What a slot says beside its name.
-#[derive(Drop)]
+#[derive(Clone, Copy)]
 pub struct Entry {
     pub state: State,
     pub high: u64,
@@ -37,7 +37,7 @@ pub struct Entry {
 }
 
 // A slot that was found, with its entry.
-#[derive(Drop)]
+#[derive(Clone, Copy)]
 pub enum Found {
     Slot(usize, Entry),
     Nothing,

@@ -1,4 +1,6 @@
 // Where a table's records lie in its bytes: document 01, "The table". Each of these numbers stands here alone.
+#![tactic(auto)]
+
 ghost use Rattle.std.specs.Prelude.{◌≡◌, ◌-◌, ◌/◌, ◌<◌};
 ghost use Rattle.model.specs.Table.{kind_with, lines_at, layout_of};
 ghost use Rattle.model.specs.Calls.{table_length};
@@ -84,7 +86,7 @@ pub const SLOT_BODY: usize = SLOT - 1;
 pub const TABLE_MOST: usize = THIRTEEN_LINES_AT + ROSTER + SLOT * SLOTS_MOST;
 
 // The weeks that a table's clock counts: of ten bits, or of thirteen.
-#[derive(Drop)]
+#[derive(Clone, Copy)]
 pub enum Weeks {
     Ten,
     Thirteen,
@@ -102,7 +104,7 @@ pub fn clock_kind(weeks: Weeks) -> u8
 
 // How a table is laid out: the weeks that its clock counts, where its lines and slots start, and how many slots there are. It is worked out once a
 // call from the table's length. Both places are below 320, and kept in 16 bits: what is handed on is two words.
-#[derive(Drop)]
+#[derive(Clone, Copy)]
 pub struct Layout {
     pub weeks: Weeks,
     pub lines_at: u16,

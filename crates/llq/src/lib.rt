@@ -21,7 +21,7 @@ use wire::{HEADER_LEN, LlqNumber, LlqOption, MessageNumber, OPT_LEN, OPTION_LEN,
 
 // A datagram's answer: the refusal's number and 0, or 0 and the reply's length.
 #[repr(C)]
-#[derive(Drop)]
+#[derive(Clone, Copy)]
 pub struct Served {
     pub number: u32,
     pub length: u32,
@@ -29,7 +29,7 @@ pub struct Served {
 
 // A tick's answer: the refusal's number and 0, or 0 and how many entries were freed.
 #[repr(C)]
-#[derive(Drop)]
+#[derive(Clone, Copy)]
 pub struct Ticked {
     pub number: u32,
     pub freed: u32,

@@ -3,7 +3,7 @@ use Prim.Native.Nat.{ℕ, zero, suc, ◌+◌, ◌-◌, ◌*◌, ◌/◌, ◌%◌
 use native.Mathlib.Nat.{zero-add, add_assoc, mul_assoc, pow-suc, add-zero, add-suc}
 use native.Mathlib.Omega.{arith}
 use lib.Dec.{lit<}
-use mathlib.Core.Path.{◌≡◌, refl, sym, ap, ◌∙◌}
+use mathlib.Core.Path.{◌≡◌, refl, sym, ap, ◌∙◌, subst}
 use mathlib.Core.List.{List, [], ◌∷◌, ◌++◌, append_assoc, append-nil}
 use lib.ListN.{length, take, drop, get_or, set, length-append, length-take, length-drop, take-append-drop, drop_of_length-le, replicate}
 use lib.Seq.{drop-cons, take-suc, get_or-drop, get_or-take, get_or_at, take_at, drop_at, get_or-append-add, drop-drop, set_split, set_at, take-length}
@@ -44,13 +44,13 @@ unfolding big_endian bytes_of
 big-bytes zero x p q h = omega arith
 big-bytes (suc k) x p q h =
     let w : x < 256 ^ k * 256 = rw pow-suc at h in
-    rw (
-      append_assoc (bytes_of k (x / 256)) (x % 256 ∷ []) q,
-      big-bytes k (x / 256) p (x % 256 ∷ q) (omega arith),
-      get_or-append-add p (bytes_of k (x / 256) ++ (x % 256 ∷ q)) k 0,
-      get_or_at (bytes_of k (x / 256)) (x % 256) q 0 k (length-bytes k (x / 256)),
-    )
-    (omega arith)
+    let e : p ++ (bytes_of (suc k) x ++ q) ≡ p ++ (bytes_of k (x / 256) ++ (x % 256 ∷ q)) = ap (λ (r : List ℕ). p ++ r) (append_assoc (bytes_of k (x / 256)) (x % 256 ∷ []) q) in
+    let b : big_endian (p ++ (bytes_of k (x / 256) ++ (x % 256 ∷ q))) (length p) k ≡ x / 256 = big-bytes k (x / 256) p (x % 256 ∷ q) (omega arith) in
+    subst
+    (λ (r : List ℕ). big_endian r (length p) (suc k) ≡ x)
+    (sym e)
+    (rw (b, get_or-append-add p (bytes_of k (x / 256) ++ (x % 256 ∷ q)) k 0, get_or_at (bytes_of k (x / 256)) (x % 256) q 0 k (length-bytes k (x / 256)))
+    (omega arith))
 
 -- what was read is written
 pub bytes-big : (s : List ℕ) (at k : ℕ) → Bytes s → at + k ≤ length s → bytes_of k (big_endian s at k) ≡ part at k s

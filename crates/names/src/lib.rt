@@ -12,7 +12,7 @@ pub mod fold_table;
 
 // What a comparison of two names returns: whether they are the same, and how many byte pairs it looked at, the differing one included. Lengths
 // are no pair: where they differ no byte of either name is read, and the count is 0.
-#[derive(Drop)]
+#[derive(Clone, Copy)]
 pub struct Compared {
     pub same: bool,
     pub pairs: usize,

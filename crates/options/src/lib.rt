@@ -16,7 +16,7 @@ use record::State;
 use wire::{LlqNumber, LlqOption, Question};
 
 // What an option came to.
-#[derive(Drop)]
+#[derive(Clone, Copy)]
 pub enum Outcome {
     // an entry, found or new, pending or not, and what is left of its lease
     Challenge(LlqNumber, u32),
@@ -32,7 +32,7 @@ pub enum Outcome {
 }
 
 // An option served: the opcode and the number sent, and what it came to.
-#[derive(Drop)]
+#[derive(Clone, Copy)]
 pub struct ServedOption {
     pub opcode: u16,
     pub number: LlqNumber,
@@ -40,7 +40,7 @@ pub struct ServedOption {
 }
 
 // What an option asks for.
-#[derive(Drop)]
+#[derive(Clone, Copy)]
 pub enum Kind {
     BadVersion,
     BadFormat,

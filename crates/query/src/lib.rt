@@ -10,7 +10,7 @@ use wire::{
 };
 
 // What the header tells of a query: the refusal's number, 3 or 4, or 0; the message number and the RD bit; how many questions there are to read, and from where.
-#[derive(Drop)]
+#[derive(Clone, Copy)]
 pub struct QueryHeader {
     pub refused: u32,
     pub number: MessageNumber,
@@ -20,7 +20,7 @@ pub struct QueryHeader {
 }
 
 // The questions: the first eight by value, the place behind them, and whether all are good; where one is bad the place is the datagram's end. An array beside a verdict: an enum cannot hold it.
-#[derive(Drop)]
+#[derive(Clone, Copy)]
 pub struct Questions {
     pub all: [Question; 8],
     pub next: Cursor,
@@ -28,14 +28,14 @@ pub struct Questions {
 }
 
 // Where the options start, and whether an OPT record stands before them; where there is none the place is the datagram's end.
-#[derive(Drop)]
+#[derive(Clone, Copy)]
 pub struct OptFound {
     pub first: Cursor,
     pub good: bool,
 }
 
 // The options of code 1: the first eight by value, how many there are, whether each has length 18; and whether the options fill the datagram.
-#[derive(Drop)]
+#[derive(Clone, Copy)]
 pub struct Options {
     pub all: [LlqOption; 8],
     pub count: usize,
@@ -44,7 +44,7 @@ pub struct Options {
 }
 
 // Up to eight questions beside their options. The options are those of the questions where they matched.
-#[derive(Drop)]
+#[derive(Clone, Copy)]
 pub struct Query {
     pub number: MessageNumber,
     pub desired: u8,
@@ -56,7 +56,7 @@ pub struct Query {
 }
 
 // The refusal's number, 3 to 7, or 0 and the query.
-#[derive(Drop)]
+#[derive(Clone, Copy)]
 pub struct Parsed {
     pub refused: u32,
     pub query: Query,

@@ -71,7 +71,7 @@ pub fn put_clock(t: &mut [u8], l: Layout, c: Clock)
 }
 
 // "Each slot is free, pending or established."
-#[derive(Drop)]
+#[derive(Clone, Copy)]
 pub enum State {
     Free,
     Pending,

@@ -31,7 +31,7 @@ const SIZE_AT: usize = 37;
 pub const NUMBERS: usize = 12;
 
 // Whether the script was carried out, and how many bytes its answers take in the lent buffer.
-#[derive(Drop)]
+#[derive(Clone, Copy)]
 pub struct Ran {
     pub done: bool,
     pub length: usize,

@@ -12,14 +12,14 @@ pub const OPT_LEN: usize = 11;
 pub const OPTION_LEN: usize = 22;
 
 // A message number and an LLQ number are different kinds: neither can stand for the other.
-#[derive(Drop)]
+#[derive(Clone, Copy)]
 pub struct MessageNumber(pub u16);
 
-#[derive(Drop)]
+#[derive(Clone, Copy)]
 pub struct LlqNumber(pub u64);
 
 // A header's fields: the third byte holds QR, OPCODE, AA, TC and RD.
-#[derive(Drop)]
+#[derive(Clone, Copy)]
 pub struct Header {
     pub number: MessageNumber,
     pub flags: u8,
@@ -30,7 +30,7 @@ pub struct Header {
 }
 
 // A question: where its name starts in the datagram, how many bytes the name takes, its type and class. Places in a datagram fit 16 bits: eight questions are then 64 bytes without gaps.
-#[derive(Drop)]
+#[derive(Clone, Copy)]
 pub struct Question {
     pub start: u16,
     pub len: u16,
@@ -39,7 +39,7 @@ pub struct Question {
 }
 
 // An LLQ option's 18 bytes. The widest field comes first: an array of eight is then cleared in two stores an option.
-#[derive(Drop)]
+#[derive(Clone, Copy)]
 pub struct LlqOption {
     pub number: LlqNumber,
     pub lease: u32,
@@ -49,32 +49,32 @@ pub struct LlqOption {
 }
 
 // A place in a message. Each reader takes it and hands it back moved on.
-#[derive(Drop)]
+#[derive(Clone, Copy)]
 pub struct Cursor {
     pub at: usize,
 }
 
-#[derive(Drop)]
+#[derive(Clone, Copy)]
 pub enum ByteRead {
     Byte(u8, Cursor),
     Short,
 }
 
-#[derive(Drop)]
+#[derive(Clone, Copy)]
 pub enum NumberRead {
     Number(u16, Cursor),
     Short,
 }
 
 // A header, and the place behind it.
-#[derive(Drop)]
+#[derive(Clone, Copy)]
 pub struct HeaderRead {
     pub header: Header,
     pub next: Cursor,
 }
 
 // A label that is passed, or the zero byte that ends a name.
-#[derive(Drop)]
+#[derive(Clone, Copy)]
 pub enum LabelRead {
     Label(Cursor),
     Last(Cursor),
@@ -82,14 +82,14 @@ pub enum LabelRead {
 }
 
 // How many bytes a name takes.
-#[derive(Drop)]
+#[derive(Clone, Copy)]
 pub enum NameRead {
     Name(usize, Cursor),
     Bad,
 }
 
 // Where a question's name starts and how many bytes it takes, and its numbers.
-#[derive(Drop)]
+#[derive(Clone, Copy)]
 pub enum QuestionRead {
     Found {
         start: usize,
@@ -102,14 +102,14 @@ pub enum QuestionRead {
 }
 
 // Where an OPT record's data start.
-#[derive(Drop)]
+#[derive(Clone, Copy)]
 pub enum OptRead {
     Data(Cursor),
     Bad,
 }
 
 // An option's code, where its data start and how many bytes they are.
-#[derive(Drop)]
+#[derive(Clone, Copy)]
 pub enum OptionRead {
     Found {
         code: u16,
@@ -121,7 +121,7 @@ pub enum OptionRead {
 }
 
 // An LLQ option, and the place behind it.
-#[derive(Drop)]
+#[derive(Clone, Copy)]
 pub struct LlqRead {
     pub option: LlqOption,
     pub next: Cursor,
