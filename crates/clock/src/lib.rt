@@ -1,5 +1,7 @@
 // Document 01, "The clock": readings, the step between two places, the clock moved on, and ages. A week of ten or of thirteen bits is a parameter.
 // The clock moves in `stepped` alone. It is lent to `advance`; other crates call `advanced`, which lends it a copy.
+#![tactic(auto)]
+
 ghost use Rattle.std.specs.Prelude.{◌≡◌, ◌<◌};
 ghost use Rattle.model.specs.Clock.{ten_bit, thirteen_bit, weeks_in, cycle_of, valid_reading, place_of, age_at, run_out};
 ghost use Rattle.model.specs.Clock.{step as step_of, advance as advance_of};

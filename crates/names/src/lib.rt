@@ -1,4 +1,6 @@
 // Domain names: compared with A to Z folded to a to z, other bytes as they are; stored folded; a stored one's labels and case.
+#![tactic(auto)]
+
 ghost use Rattle.std.specs.Prelude.{◌≡◌, not, map, ◌+◌, ◌≤◌, ◌<◌, length, eqb};
 ghost use Rattle.model.specs.Lists.{bit, same};
 ghost use Rattle.model.specs.Numbers.{part, splice};

@@ -1,4 +1,6 @@
 // The records of a message, and a cursor that reads them: RFC 1035, RFC 6891 and RFC 8764.
+#![tactic(auto)]
+
 ghost use Rattle.std.specs.Prelude.{◌≡◌, ◌+◌, ◌≤◌, length};
 ghost use Rattle.wire.specs.Read.{read_byte, read_number, read_header, read_label, read_name, read_question, read_opt, read_option, read_llq_option};
 
