@@ -1,4 +1,6 @@
 // Document 01's query, read left to right: header, questions, OPT record, options. Refusals 3 to 7.
+#![tactic(auto)]
+
 ghost use Rattle.std.specs.Prelude.{◌≡◌, ◌+◌, ◌≤◌, length};
 ghost use Rattle.model.specs.Numbers.{big_endian};
 ghost use Rattle.query.specs.Parts.{good_fields, refused_header, QueryHeaderOf, blank_question, blank_option, QuestionsRead, OptFoundAt, OptionsRead};

@@ -1,5 +1,7 @@
 // One record's bytes: of a slot or a roster line, wherever they lie, its kind and zeros and the rules that it meets by itself; of a table's clock, its two numbers
 // read and written. Here alone a place is read and written as 4 bytes or 8.
+#![tactic(auto)]
+
 ghost use Rattle.std.specs.Prelude.{◌≡◌, ◌&&◌, ◌∷◌, [], ◌+◌, ◌*◌, ◌^◌, ◌≤◌, ◌<◌, length, get_or, eqb};
 ghost use Rattle.model.specs.Numbers.{big_endian, bytes_of, splice, encode};
 ghost use Rattle.model.specs.Clock.{cycle_of};
