@@ -1,4 +1,6 @@
 // What a table's entries come to: how many an address holds, how many there are, and what is reserved to the listed addresses.
+#![tactic(auto)]
+
 ghost use Rattle.std.specs.Prelude.{◌≡◌, ◌+◌, ◌-◌, ◌*◌, ◌^◌, ◌≤◌, ◌<◌, length};
 ghost use Rattle.model.specs.Lists.{count, any};
 ghost use Rattle.model.specs.Table.{read_line};

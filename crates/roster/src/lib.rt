@@ -1,4 +1,6 @@
 // Roster lines, one after the other: the rules of a roster, and what the lines say of an address. `lines` starts with the first of them: a table's part, or a roster by itself.
+#![tactic(auto)]
+
 ghost use Rattle.std.specs.Prelude.{◌≡◌, not, ◌&&◌, ◌+◌, ◌*◌, ◌^◌, ◌≤◌, ◌<◌, length, get_or, eqb};
 ghost use Rattle.model.specs.Lists.{every, no_two};
 ghost use Rattle.model.specs.Table.{read_line, listed};
