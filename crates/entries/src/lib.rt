@@ -1,4 +1,6 @@
 // What is read of a table's slots, where they lie: `slots` is the part that starts with the first. A slot is found by its first index, as the model finds it.
+#![tactic(auto)]
+
 ghost use Rattle.std.specs.Prelude.{◌≡◌, ◌+◌, ◌*◌, ◌≤◌, ◌||◌, length, ◌==◌, nat_le};
 ghost use Rattle.model.specs.Lists.{count, index_of};
 ghost use Rattle.model.specs.Clock.{age_at, run_out};

@@ -36,8 +36,8 @@ module _ (u : Bool) (h k : Holding) (a : ℕ) (address : k.address ≡ a) where
   asked : cond u (not (same_question h k)) true ≡ not (u && held_by a h && same_asked h k)
   asked = rw (question-is h k, address) (unless u (held_by a h && same_asked h k) ∙ ap not (sym (and_assoc u (held_by a h) (same_asked h k))))
 
-  pub same_asked : u && held_by a h ≡ true → same_asked h k ≡ true → cond u (not (same_question h k)) true ≡ false
-  same_asked e s = asked ∙ (rw (e, s))
+  pub same_asked_lem : u && held_by a h ≡ true → same_asked h k ≡ true → cond u (not (same_question h k)) true ≡ false
+  same_asked_lem e s = asked ∙ (rw (e, s))
 
   pub other-asked : u && held_by a h ≡ true → same_asked h k ≡ false → cond u (not (same_question h k)) true ≡ true
   other-asked e s = asked ∙ (rw (e, s))

@@ -1,4 +1,6 @@
 // Whether a table's bytes are sound, and a roster's good: document 01, "A table is sound if ..".
+#![tactic(auto)]
+
 ghost use Rattle.std.specs.Prelude.{◌≡◌, true, not, ◌&&◌, ◌+◌, ◌*◌, ◌^◌, ◌≤◌, ◌<◌, min, length, leb};
 ghost use Rattle.model.specs.Lists.{every, no_two};
 ghost use Rattle.model.specs.Rules.{numbered, held_by, limit_of, share_of};

@@ -1,0 +1,18 @@
+-- `sound::few_sound` meets its contract: the entries passed meet the rules of holders, and k is the reserve and they. Assumes nothing.
+use Prim.Native.Nat.{◌+◌, ◌-◌, ◌≤◌}
+use mathlib.Core.Path.{◌≡◌}
+use mathlib.Core.Bool.{true}
+use Rattle.model.specs.Lists.{count, any, no_two}
+use Rattle.model.specs.Rules.{reserve}
+use Rattle.model.specs.Sound.{same_number}
+use Rattle.layout.specs.Shape.{lines_to}
+use Rattle.layout.specs.Held.{held_to}
+use Rattle.sound.specs.Holders.{holders_sound}
+use Rattle.sound.proofs.few_sound.Given as goal
+
+abbrev pub invariant-loop-i : goal.invariant-loop-i
+invariant-loop-i l = (l.i ≤ l.n) × (l.k ≤ l.shares + l.i) × (no_two same_number (held_to 0 l.slots l.i) ≡ true) × (holders_sound l.slots (lines_to l.lines l.m) l.i ≡ true)
+    × (l.k ≡ reserve (lines_to l.lines l.m) (count (held_to 0 l.slots l.i)) + count (held_to 0 l.slots l.i) any)
+
+abbrev pub decreases-loop-i : goal.decreases-loop-i
+decreases-loop-i l = l.n - l.i
