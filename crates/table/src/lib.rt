@@ -1,4 +1,6 @@
 // Changes of a table in place: a slot written, the clock moved and run-out entries freed, a table made. `slots` and `lines` are the parts that start with the first of them.
+#![tactic(auto)]
+
 ghost use Rattle.std.specs.Prelude.{◌≡◌, true, ◌∷◌, [], map, ◌+◌, ◌-◌, ◌*◌, ◌<◌, ◌≤◌, length};
 ghost use Rattle.model.specs.Lists.{count, flat};
 ghost use Rattle.model.specs.Numbers.{bytes_of, part, splice, encode};

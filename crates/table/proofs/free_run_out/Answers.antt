@@ -1,0 +1,43 @@
+-- `table::free_run_out` meets its contract. Assumes nothing.
+use Prim.Native.Nat.{◌-◌}
+use native.Mathlib.Omega.{arith}
+use mathlib.Core.Path.{refl, sym, ap, ◌∙◌}
+use borrow.Author.Rules.{rules}
+use lib.ListN.{length}
+use Rattle.table.proofs.SweepLaws as sweep
+use Rattle.table.proofs.free_run_out.Goals as goal
+use Rattle.table.proofs.free_run_out.Goals.{then-run_out, else-run_out}
+
+pub loop-i-init : goal.loop-i-init
+loop-i-init c = (search rules, search rules, refl, sweep.sweep-start _ _ _ c.requires.1, search rules, λ j. omega (arith, c.type_inv.slots j))
+
+pub loop-i-preserved : goal.loop-i-preserved
+loop-i-preserved c =
+    let l = c.loop-i in
+    let a = c.args in
+    elim c.if-run_out.branch [
+      | then-run_out w ↦
+          let h = sym c.run_out.ensures ∙ w.if-run_out.true in (
+            omega arith,
+            omega arith,
+            ap length w.slots-is ∙ w.end_entry.auto.slots ∙ l.invariant.2,
+            w.slots-is ∙ w.end_entry.ensures ∙ sweep.turn-hit a.slots.now l.invariant.5 a.n a.running l.i (omega arith) l.slots l.invariant.3 h,
+            rw w.k-is (sweep.count-hit a.slots.now l.invariant.5 a.n a.running l.i (omega arith) l.slots l.invariant.3 l.k h l.invariant.4),
+            l.invariant.5,
+          )
+      | else-run_out w ↦
+          let h = sym c.run_out.ensures ∙ w.if-run_out.false in (
+            omega arith,
+            omega arith,
+            ap length w.slots-is ∙ l.invariant.2,
+            w.slots-is ∙ sweep.turn-miss a.slots.now l.invariant.5 a.n a.running l.i (omega arith) l.slots l.invariant.3 h,
+            rw w.k-is (sweep.count-miss a.slots.now l.invariant.5 a.n a.running l.i (omega arith) l.slots l.invariant.3 l.k h l.invariant.4),
+            l.invariant.5,
+          )
+    ]
+
+pub returns : goal.returns
+returns c =
+    let l = c.loop-i in
+    let a = c.args in
+    sweep.all-freed a.slots.now l.invariant.5 a.n a.running l.slots l.k l.i (omega arith) l.invariant.3 l.invariant.4
