@@ -1,4 +1,6 @@
 // One option served on the table as it stands: setup, response, refresh.
+#![tactic(auto)]
+
 ghost use Rattle.std.specs.Prelude.{◌≡◌, ◌+◌, ◌≤◌, length};
 ghost use Rattle.model.specs.Clock.{age_at};
 ghost use Rattle.model.specs.Table.{size_of, layout_of, read_table};
