@@ -1,4 +1,4 @@
-// Document 01's three calls, for a host in C: making, ticking, serving. Every refusal is decided before the first byte is written.
+// Document 01's three calls: making, ticking, serving. A host in C calls them through the crate `llq_c`. Every refusal is decided before the first byte is written.
 #![tactic(auto)]
 
 ghost use Rattle.std.specs.Prelude.{◌≡◌, true, ◌+◌, ◌-◌, ◌*◌, ◌^◌, ◌<◌, ◌≤◌, length};
@@ -39,8 +39,7 @@ pub struct Ticked {
 
 // MAKING
 
-#[unsafe(no_mangle)]
-pub extern "C" fn llq_make(week: u32, second: u32, t: &mut [u8], roster: &[u8]) -> u32
+pub fn llq_make(week: u32, second: u32, t: &mut [u8], roster: &[u8]) -> u32
     ensures { MakeMeets (record { week = week; second = second; roster = roster.now }) t.old t.new result }
 {
     let l = layout::of(t.len());
@@ -60,8 +59,7 @@ pub extern "C" fn llq_make(week: u32, second: u32, t: &mut [u8], roster: &[u8]) 
 
 // TICKING
 
-#[unsafe(no_mangle)]
-pub extern "C" fn llq_tick(week: u32, second: u32, t: &mut [u8]) -> Ticked
+pub fn llq_tick(week: u32, second: u32, t: &mut [u8]) -> Ticked
     ensures { TickMeets (record { week = week; second = second }) t.old t.new result.number result.freed }
 {
     let l = layout::of(t.len());
@@ -219,8 +217,7 @@ fn answer_mismatch(
     wire::write::put_option(reply, end + OPT_LEN, 1, 3, LlqNumber(0), 0);
 }
 
-#[unsafe(no_mangle)]
-pub extern "C" fn llq_serve(
+pub fn llq_serve(
     week: u32,
     second: u32,
     high: u64,
