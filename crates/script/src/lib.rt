@@ -1,5 +1,7 @@
 // Carries out a script, a list of makings, ticks and datagrams in bytes, on one lent table, and writes the answers into a lent buffer.
 // The contract of `run` is demand 3 of running code: specs/Ran.
+#![tactic(auto)]
+
 ghost use Rattle.std.specs.Prelude.{◌≡◌, ◌∷◌, [], ◌+◌, ◌*◌, ◌%◌, ◌<◌, ◌≤◌, length, replicate, leb};
 ghost use Rattle.model.specs.Numbers.{encode, splice};
 ghost use Rattle.model.specs.Meets.{ServeMeets};
