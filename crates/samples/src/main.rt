@@ -9,6 +9,8 @@
 //   D print the table
 // The list is cut where the table's length changes, before a C and before a D. Each piece is a script, which `script::run` carries out on
 // the lent part of the table; the lines are printed from its answers. A call's line ends in a sum of the table's bytes.
+#![tactic(auto)]
+
 ghost use Rattle.std.specs.Prelude.{◌≤◌, ◌<◌, length};
 ghost use Rattle.script.specs.Spelled.{next_at};
 
