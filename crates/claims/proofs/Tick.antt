@@ -2,7 +2,6 @@
 use Prim.Native.Nat.{ℕ}
 use mathlib.Core.Path.{◌≡◌, sym, ap, ◌∙◌}
 use mathlib.Core.List.{List}
-use Rattle.model.specs.Lists.{count}
 use Rattle.model.specs.Clock.{place_of}
 use Rattle.model.specs.Table.{read_table, table_bytes}
 use Rattle.model.specs.Rules.{holdings}

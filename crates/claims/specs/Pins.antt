@@ -1,7 +1,7 @@
 -- W11, and the table's bytes after its making, its setup, its response and a refresh without RD; after its setup again and two late responses;
 -- what ticks free when the clock is set back by a year; a table with weeks of thirteen bits, made and ticked; and, with both widths of the week,
 -- the bytes of a table whose numbers have no byte in common, written out from the layout of documents 01 and 02. Assumes nothing.
-use Rattle.std.specs.Prelude.{ℕ, ◌+◌, ◌≡◌, true, false, List, [], ◌∷◌, ◌++◌, length, replicate}
+use Rattle.std.specs.Prelude.{ℕ, ◌≡◌, true, false, List, [], ◌∷◌, ◌++◌, length, replicate}
 use Rattle.model.specs.Clock.{Clock, Weeks, ten_bit, thirteen_bit}
 use Rattle.model.specs.Table.{free, held, Table, table_bytes, read_table}
 use Rattle.model.specs.Serve.{Sender}

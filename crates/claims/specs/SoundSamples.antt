@@ -1,5 +1,5 @@
 -- Sound and unsound tables at the ends of each rule, computed beside expected. Assumes nothing.
-use Rattle.std.specs.Prelude.{ℕ, ◌+◌, ◌≡◌, Bool, true, false, List, [], ◌∷◌, ◌++◌, map, replicate, set}
+use Rattle.std.specs.Prelude.{ℕ, ◌≡◌, Bool, true, false, List, [], ◌∷◌, ◌++◌, map, replicate, set}
 use Rattle.model.specs.Clock.{Weeks, ten_bit, thirteen_bit}
 use Rattle.model.specs.Table.{Line, Slot, free, held, Table, table_bytes}
 use Rattle.model.specs.Sound.{sound_table, sound_bytes}

@@ -1,6 +1,5 @@
 -- Claim 4: an answered tick moves the clock, frees run-out entries and reports how many. Assumes nothing.
 use Rattle.std.specs.Prelude.{ℕ, ◌+◌, ◌*◌, ◌≡◌, List, length}
-use Rattle.model.specs.Lists.{count}
 use Rattle.model.specs.Table.{read_table, table_bytes}
 use Rattle.model.specs.Rules.{holdings}
 use Rattle.model.specs.Sound.{SoundBytes}

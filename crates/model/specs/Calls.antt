@@ -1,5 +1,5 @@
 -- Document 01's three calls: from arguments and lent bytes to the numbered answer and the bytes left. Assumes nothing.
-use Rattle.std.specs.Prelude.{ℕ, zero, suc, ◌+◌, ◌*◌, ◌/◌, Bool, not, cond, ◌&&◌, ◌||◌, List, [], ◌∷◌, ◌++◌, length, get_or, drop, replicate, eqb, leb, ltb}
+use Rattle.std.specs.Prelude.{ℕ, zero, suc, ◌*◌, ◌/◌, Bool, not, cond, ◌&&◌, ◌||◌, List, [], ◌∷◌, ◌++◌, length, get_or, drop, replicate, eqb, leb, ltb}
 use Rattle.model.specs.Lists.{count, every, up_to}
 use Rattle.model.specs.Clock.{valid_reading, place_of, advance}
 use Rattle.model.specs.Query.{wrong_size, good_header, qdcount, good_questions, questions_end, good_opt, llq_options, matched, question, llq_option}

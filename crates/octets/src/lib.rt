@@ -1,5 +1,6 @@
 // Bytes of a slice: big-endian numbers read and written, zeros, copies.
 #![tactic(auto)]
+
 ghost use Rattle.std.specs.Prelude.{◌≡◌, ◌&&◌, ◌+◌, ◌≤◌, length, replicate};
 ghost use Rattle.model.specs.Lists.{same};
 ghost use Rattle.model.specs.Numbers.{big_endian, bytes_of, part, splice};

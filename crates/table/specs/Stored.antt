@@ -1,5 +1,5 @@
 -- The code's entry as it is stored. Assumes nothing.
-use Rattle.std.specs.Prelude.{ℕ, ◌+◌, ◌-◌, Bool, List, [], ◌∷◌, ◌++◌, length, replicate}
+use Rattle.std.specs.Prelude.{ℕ, ◌-◌, Bool, List, [], ◌∷◌, ◌++◌, length, replicate}
 use Rattle.model.specs.Numbers.{bytes_of, encode}
 use Rattle.model.specs.Table as table
 use Rattle.record.specs.State.{kind_byte}

@@ -1,5 +1,5 @@
 -- `clock::step` meets its contract: the distance ahead, and that less a cycle, are in an i32's range. Assumes nothing.
-use Rattle.std.proofs.Common.{◌≡◌, ℕ, refl, ◌∙◌, lit<, w32}
+use Rattle.std.proofs.Common.{ℕ, refl, ◌∙◌, lit<, w32}
 use Rattle.model.specs.Clock.{ten_bit, cycle_of}
 use Rattle.clock.proofs.StepLaws.{ahead-on, ahead-around, step-on, step_back}
 use Rattle.clock.proofs.step.Goals as goal

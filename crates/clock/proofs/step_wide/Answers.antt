@@ -1,5 +1,5 @@
 -- `clock::step_wide` meets its contract: the same law at the other cycle, in an i64. Assumes nothing.
-use Rattle.std.proofs.Common.{◌≡◌, ℕ, refl, ◌∙◌, lit<, w64}
+use Rattle.std.proofs.Common.{ℕ, refl, ◌∙◌, lit<, w64}
 use Rattle.model.specs.Clock.{thirteen_bit, cycle_of}
 use Rattle.clock.proofs.StepLaws.{ahead-on, ahead-around, step-on, step_back}
 use Rattle.clock.proofs.step_wide.Goals as goal

@@ -1,5 +1,5 @@
 -- `entries::find_answered` meets its contract. Assumes nothing.
-use Rattle.std.proofs.Common.{◌≡◌, ◌-◌, ◌*◌, sym, ◌∙◌, arith, rules, ne_eqb}
+use Rattle.std.proofs.Common.{◌≡◌, ◌*◌, sym, ◌∙◌, arith, rules, ne_eqb}
 use Rattle.model.specs.Table.{read_entry}
 use Rattle.entries.proofs.Laws as law
 use Rattle.entries.proofs.find_answered.Goals as goal

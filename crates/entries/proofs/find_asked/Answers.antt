@@ -1,5 +1,5 @@
 -- `entries::find_asked` meets its contract. Assumes nothing.
-use Rattle.std.proofs.Common.{◌≡◌, ◌-◌, ◌*◌, sym, ◌∙◌, arith, rules}
+use Rattle.std.proofs.Common.{◌≡◌, ◌*◌, sym, ◌∙◌, arith, rules}
 use Rattle.model.specs.Table.{read_entry}
 use Rattle.entries.proofs.Laws as law
 use Rattle.entries.proofs.find_asked.Goals as goal

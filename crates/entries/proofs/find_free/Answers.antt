@@ -1,5 +1,5 @@
 -- `entries::find_free` meets its contract. Assumes nothing.
-use Rattle.std.proofs.Common.{◌≡◌, ◌-◌, sym, ap, ◌∙◌, arith, rules}
+use Rattle.std.proofs.Common.{◌≡◌, sym, ap, ◌∙◌, arith, rules}
 use Rattle.model.specs.Serve.{is_free}
 use Rattle.layout.proofs.ReadLaws.{read_held, read-free}
 use Rattle.entries.proofs.Laws as law

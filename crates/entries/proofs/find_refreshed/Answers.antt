@@ -1,5 +1,5 @@
 -- `entries::find_refreshed` meets its contract. Assumes nothing.
-use Rattle.std.proofs.Common.{◌≡◌, ◌-◌, ◌*◌, eqb, get_or, sym, ◌∙◌, arith, rules, ne_eqb}
+use Rattle.std.proofs.Common.{◌≡◌, ◌*◌, eqb, get_or, sym, ◌∙◌, arith, rules, ne_eqb}
 use mathlib.Core.Bool.{and-false}
 use Rattle.model.specs.Table.{read_entry}
 use Rattle.entries.proofs.Laws as law

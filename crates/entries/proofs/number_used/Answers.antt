@@ -1,5 +1,5 @@
 -- `entries::number_used` meets its contract. Assumes nothing.
-use Rattle.std.proofs.Common.{◌≡◌, ◌-◌, sym, ◌∙◌, arith, rules}
+use Rattle.std.proofs.Common.{◌≡◌, sym, ◌∙◌, arith, rules}
 use Rattle.layout.specs.Held.{holding_at}
 use Rattle.entries.proofs.Laws as law
 use Rattle.entries.proofs.number_used.Goals as goal

@@ -1,5 +1,4 @@
 -- `holdings::reserve_of` meets its contract: the reserve of the lines passed. Assumes nothing.
-use Prim.Native.Nat.{◌-◌}
 use mathlib.Core.Path.{◌≡◌, refl}
 use native.Mathlib.Omega.{arith}
 use borrow.Author.Rules.{rules}

@@ -1,13 +1,11 @@
 -- `llq::llq_make` meets its contract. Assumes nothing.
-use mathlib.Core.Path.{◌≡◌, sym, ap, ◌∙◌}
+use mathlib.Core.Path.{sym, ap, ◌∙◌}
 use native.Mathlib.Omega.{arith}
 use Prim.Native.Nat.{ℕ}
-use mathlib.Core.Bool.{true}
 use lib.ListN.{length}
-use Rattle.model.specs.Clock.{valid_reading}
-use Rattle.model.specs.Table.{place_bytes, layout_of, slots_in}
+use Rattle.model.specs.Table.{place_bytes}
 use Rattle.layout.specs.Places.{layout_in}
-use Rattle.model.specs.Calls.{table_length, good_roster}
+use Rattle.model.specs.Calls.{good_roster}
 use Rattle.llq.proofs.LadderLaws as ladder
 use Rattle.model.proofs.CallLaws.{length-facts}
 use Rattle.llq.proofs.AnswerLaws.{fresh-is, reading-tested, reading-place}

@@ -1,14 +1,9 @@
 -- `llq::llq_serve` meets its contract. Assumes nothing.
 use native.Mathlib.Omega.{arith}
-use mathlib.Core.Path.{◌≡◌, sym, ◌∙◌}
-use mathlib.Core.Bool.{true}
+use mathlib.Core.Path.{sym, ◌∙◌}
 use borrow.Author.Tests.{not-true, not-false}
-use Rattle.model.specs.Clock.{valid_reading}
 use lib.ListN.{length}
-use Rattle.model.specs.Table.{layout_of}
-use Rattle.model.specs.Sound.{sound_bytes}
 use Rattle.layout.specs.Places.{layout_in}
-use Rattle.query.specs.Whole.{query_refusal}
 use Rattle.llq.proofs.LadderLaws as ladder
 use Rattle.llq.proofs.FoundLaws.{measures}
 use Rattle.model.proofs.Meaning.{bytes_back as sound-formed}

@@ -1,11 +1,8 @@
 -- `llq::llq_tick` meets its contract. Assumes nothing.
-use mathlib.Core.Path.{◌≡◌, sym, ap, ◌∙◌}
+use mathlib.Core.Path.{sym, ap, ◌∙◌}
 use native.Mathlib.Omega.{arith}
-use mathlib.Core.Bool.{true}
-use Rattle.model.specs.Clock.{valid_reading}
-use Rattle.model.specs.Sound.{sound_bytes}
 use lib.ListN.{length}
-use Rattle.model.specs.Table.{read_table, table_bytes, layout_of}
+use Rattle.model.specs.Table.{read_table, table_bytes}
 use Rattle.layout.specs.Places.{layout_in}
 use Rattle.model.specs.Serve.{moved_on}
 use Rattle.model.specs.Calls.{freed_by}

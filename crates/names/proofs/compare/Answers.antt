@@ -1,5 +1,5 @@
 -- `names::compare` meets its contract: lengths that differ; the bytes passed agree with the folded ones, and the first that differs decides. Assumes nothing.
-use Prim.Native.Nat.{◌-◌, ◌+◌}
+use Prim.Native.Nat.{◌+◌}
 use mathlib.Core.Path.{◌≡◌, refl, sym, ◌∙◌}
 use mathlib.Core.List.{map}
 use native.Mathlib.Omega.{arith}

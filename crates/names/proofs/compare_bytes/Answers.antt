@@ -1,5 +1,4 @@
 -- `names::compare_bytes` meets its contract: the bytes passed agree, and the first that differs decides. Assumes nothing.
-use Prim.Native.Nat.{◌-◌}
 use mathlib.Core.Path.{◌≡◌, refl, sym}
 use native.Mathlib.Omega.{arith}
 use borrow.Author.Rules.{rules}

@@ -1,10 +1,9 @@
 -- `names::compare_stored` meets its contract: lengths that differ; the words passed agree, and the two of which one differs, or what is behind them, are
 -- compared. Assumes nothing.
-use Prim.Native.Nat.{◌+◌, ◌-◌, ◌*◌, ◌/◌, ◌%◌}
+use Prim.Native.Nat.{◌+◌, ◌*◌, ◌/◌, ◌%◌}
 use mathlib.Core.Path.{◌≡◌, refl, sym, ap, ◌∙◌}
 use native.Mathlib.Omega.{arith}
 use borrow.Author.Rules.{rules}
-use borrow.Author.Tests.{not-true, not-false}
 use Rattle.model.specs.Numbers.{part}
 use Rattle.model.specs.Names.{Compared}
 use Rattle.model.proofs.NumberLaws.{length_part}

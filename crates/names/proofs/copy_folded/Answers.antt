@@ -1,5 +1,4 @@
 -- `names::copy_folded` meets its contract: what is copied so far is folded. Assumes nothing.
-use Prim.Native.Nat.{◌-◌}
 use native.Mathlib.Omega.{arith}
 use mathlib.Core.Path.{◌≡◌, refl, sym}
 use lib.ListN.{length-set}

@@ -1,5 +1,5 @@
 -- `names::lower_bytes` meets its contract: the `or` over the bytes passed is zero exactly if none is a capital. Assumes nothing.
-use Prim.Native.Nat.{◌+◌, ◌-◌}
+use Prim.Native.Nat.{◌+◌}
 use mathlib.Core.Path.{◌≡◌, refl}
 use native.Mathlib.Omega.{arith}
 use borrow.Author.Rules.{rules}

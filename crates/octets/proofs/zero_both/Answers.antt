@@ -1,5 +1,5 @@
 -- `octets::zero_both` meets its contract: each `or` is zero exactly if the bytes passed in its range are. Assumes nothing.
-use Prim.Native.Nat.{◌+◌, ◌-◌}
+use Prim.Native.Nat.{◌+◌}
 use mathlib.Core.Path.{◌≡◌, refl, ◌∙◌}
 use native.Mathlib.Omega.{arith}
 use borrow.Author.Rules.{rules}

@@ -1,5 +1,4 @@
 -- The proof of `find_opt`. Assumes nothing.
-use Prim.Native.Nat.{◌-◌}
 use native.Mathlib.Omega.{arith}
 use mathlib.Core.Path.{refl, sym, ◌∙◌}
 use Rattle.model.proofs.ListLaws.{never}

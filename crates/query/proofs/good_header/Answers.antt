@@ -1,5 +1,4 @@
 -- The proof of `good_header`. Assumes nothing.
-use Prim.Native.Nat.{◌-◌}
 use mathlib.Core.Path.{sym}
 use borrow.Author.Tests.{eq-eqb, ne_eqb, le-leb, lt-leb}
 use Rattle.query.proofs.HeaderLaws.{last}

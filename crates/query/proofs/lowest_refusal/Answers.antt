@@ -1,5 +1,4 @@
 -- The proof of `lowest_refusal`. Assumes nothing.
-use Prim.Native.Nat.{◌-◌}
 use borrow.Author.Tests.{eq-eqb, ne_eqb}
 use Rattle.model.specs.Calls.{refusal}
 use Rattle.query.specs.Whole.{lowest_refusal}

@@ -1,5 +1,4 @@
 -- The proof of `parse`. Assumes nothing.
-use Prim.Native.Nat.{◌-◌}
 use Rattle.query.proofs.ParseLaws.{reads}
 use Rattle.query.proofs.parse.Goals as goal
 

@@ -1,8 +1,6 @@
 -- The proof of `read_header`. Assumes nothing.
-use Prim.Native.Nat.{◌-◌}
 use native.Mathlib.Omega.{arith}
 use mathlib.Core.Path.{sym, ◌∙◌}
-use borrow.Author.Tests.{not-true, not-false}
 use Rattle.query.proofs.HeaderLaws as law
 use Rattle.query.proofs.read_header.Goals as goal
 

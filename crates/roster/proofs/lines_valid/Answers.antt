@@ -1,11 +1,8 @@
 -- `roster::lines_valid` meets its contract: each line passed is valid. Assumes nothing.
-use Prim.Native.Nat.{◌-◌}
 use mathlib.Core.Path.{◌≡◌, refl, sym, ◌∙◌}
-use mathlib.Core.Bool.{true}
 use native.Mathlib.Omega.{arith}
 use borrow.Author.Rules.{rules}
 use Rattle.model.specs.Lists.{every, up_to}
-use Rattle.model.specs.Sound.{valid_line}
 use Rattle.layout.proofs.LineLaws.{lines-yes, lines-no}
 use Rattle.roster.proofs.lines_valid.Goals as goal
 

@@ -1,5 +1,4 @@
 -- `roster::listed_lines` meets its contract: each line passed is listed. Assumes nothing.
-use Prim.Native.Nat.{◌-◌}
 use mathlib.Core.Path.{◌≡◌, refl, sym}
 use native.Mathlib.Omega.{arith}
 use borrow.Author.Rules.{rules}

@@ -1,10 +1,9 @@
 -- `roster::unused_from` meets its contract: each line passed is unused. Assumes nothing.
 use Prim.Native.Nat.{◌-◌}
 use mathlib.Core.Path.{◌≡◌, sym, ◌∙◌}
-use mathlib.Core.Bool.{true}
 use native.Mathlib.Omega.{arith}
 use borrow.Author.Rules.{rules}
-use Rattle.layout.specs.Shape.{unused_shape, unused_from}
+use Rattle.layout.specs.Shape.{unused_from}
 use Rattle.layout.proofs.ShapeLaws.{all_none, all_more, all-no}
 use Rattle.roster.proofs.unused_from.Goals as goal
 

@@ -1,10 +1,7 @@
 -- The proof of `piece`: the place stays within the list. Assumes nothing.
-use Prim.Native.Nat.{◌-◌, ◌≤◌}
 use native.Mathlib.Omega.{arith}
 use mathlib.Core.Path.{sym, ◌∙◌}
-use lib.ListN.{length}
 use borrow.Author.Tests.{leb-true}
-use Rattle.script.specs.Spelled.{next_at}
 use Rattle.samples.proofs.piece.Goals as goal
 
 pub cuts-requires : goal.cuts-requires

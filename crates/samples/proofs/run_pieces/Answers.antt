@@ -1,9 +1,6 @@
 -- The proof of `run_pieces`: the place stays within the list, and the table and the buffer keep their lengths. Assumes nothing.
-use Prim.Native.Nat.{◌-◌, ◌≤◌}
 use mathlib.Core.Path.{sym, ◌∙◌}
-use lib.ListN.{length}
 use borrow.Author.Tests.{leb-true}
-use Rattle.script.specs.Spelled.{next_at}
 use Rattle.samples.proofs.run_pieces.Goals as goal
 
 pub lent-n-requires : goal.lent-n-requires

@@ -1,11 +1,8 @@
 -- The proof of `say_answers`: the places stay within the piece and its answers. Assumes nothing.
-use Prim.Native.Nat.{◌-◌, ◌≤◌}
 use native.Mathlib.Omega.{arith}
 use mathlib.Core.Path.{sym, ◌∙◌}
-use lib.ListN.{length}
 use borrow.Author.Tests.{leb-true}
 use borrow.Author.Rules.{rules}
-use Rattle.script.specs.Spelled.{next_at}
 use Rattle.samples.proofs.say_answers.Goals as goal
 
 pub answer_length-n-requires : goal.answer_length-n-requires

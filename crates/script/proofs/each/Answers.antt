@@ -1,14 +1,10 @@
 -- `script::each` meets its contract: the calls of the records passed are carried out, and their answers stand at the buffer's start. Assumes nothing.
-use Prim.Native.Nat.{◌+◌, ◌-◌, ◌≤◌}
 use native.Mathlib.Omega.{arith}
 use mathlib.Core.List.{[], ◌++◌}
-use mathlib.Core.Bool.{true}
-use mathlib.Core.Path.{◌≡◌, refl, sym, ◌∙◌}
-use lib.Dec.{leb}
+use mathlib.Core.Path.{refl, sym, ◌∙◌}
 use lib.ListN.{length}
 use borrow.Author.Tests.{leb-true}
 use borrow.Author.Rules.{rules}
-use Rattle.script.specs.Answers.{answers_length}
 use Rattle.script.specs.Spelled.{next_at, call_at}
 use Rattle.script.proofs.RanLaws.{carried_none, carried-both}
 use Rattle.script.proofs.AnswerLaws.{passed-room}

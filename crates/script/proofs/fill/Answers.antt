@@ -1,5 +1,4 @@
 -- `script::fill` meets its contract: the bytes before the index are filled. Assumes nothing.
-use Prim.Native.Nat.{◌-◌}
 use native.Mathlib.Omega.{arith}
 use mathlib.Core.Path.{refl}
 use lib.ListN.{length-set}

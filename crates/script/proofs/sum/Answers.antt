@@ -1,5 +1,4 @@
 -- `script::sum` meets its contract: the sum so far, gone on with over the bytes left, is the whole sum. Assumes nothing.
-use Prim.Native.Nat.{◌-◌}
 use native.Mathlib.Omega.{arith}
 use mathlib.Core.Path.{refl}
 use borrow.Author.Rules.{rules}

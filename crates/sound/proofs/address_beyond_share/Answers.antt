@@ -1,7 +1,5 @@
 -- `sound::address_beyond_share` meets its contract: the first line of the address decides, and no line passed has it. Assumes nothing.
-use Prim.Native.Nat.{◌-◌}
 use mathlib.Core.Path.{◌≡◌, refl, sym, ◌∙◌}
-use mathlib.Core.Bool.{true}
 use native.Mathlib.Omega.{arith}
 use borrow.Author.Rules.{rules}
 use Rattle.model.specs.Lists.{every, up_to}

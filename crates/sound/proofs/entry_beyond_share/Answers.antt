@@ -1,7 +1,7 @@
 -- `sound::entry_beyond_share` meets its contract: the entries passed have another number and ask another question, and those of its address are counted. Assumes nothing.
-use Prim.Native.Nat.{◌+◌, ◌-◌, ◌*◌, ◌≤◌}
+use Prim.Native.Nat.{◌+◌, ◌*◌, ◌≤◌}
 use mathlib.Core.Path.{◌≡◌, sym, ◌∙◌}
-use mathlib.Core.Bool.{true, not, and-false}
+use mathlib.Core.Bool.{not, and-false}
 use native.Mathlib.Omega.{arith}
 use borrow.Author.Rules.{rules}
 use lib.ListN.{get_or}

@@ -1,7 +1,5 @@
 -- `sound::few_sound` meets its contract: the entries passed meet the rules of holders, and k is the reserve and they. Assumes nothing.
-use Prim.Native.Nat.{◌-◌}
 use mathlib.Core.Path.{◌≡◌, sym, ◌∙◌}
-use mathlib.Core.Bool.{true}
 use native.Mathlib.Omega.{arith}
 use borrow.Author.Rules.{rules}
 use Rattle.model.specs.Lists.{every, no_two}

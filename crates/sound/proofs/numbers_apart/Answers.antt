@@ -1,10 +1,8 @@
 -- `sound::numbers_apart` meets its contract: the entries passed differ in number, and below a byte's first slot none ends in it. Assumes nothing.
-use Prim.Native.Nat.{◌+◌, ◌-◌, ◌*◌}
+use Prim.Native.Nat.{◌+◌, ◌*◌}
 use mathlib.Core.Path.{◌≡◌, refl, sym, ◌∙◌}
-use mathlib.Core.Bool.{true}
 use native.Mathlib.Omega.{arith}
 use borrow.Author.Rules.{rules}
-use borrow.Author.Tests.{not-false}
 use lib.ListN.{replicate, length-set}
 use Rattle.model.specs.Table.{read_entry}
 use Rattle.model.specs.Sound.{same_number}

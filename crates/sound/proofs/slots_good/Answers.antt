@@ -1,12 +1,10 @@
 -- `sound::slots_good` meets its contract: each slot passed has its shape, and each entry passed is valid. Assumes nothing.
-use Prim.Native.Nat.{◌-◌}
 use mathlib.Core.Path.{◌≡◌, sym, ◌∙◌}
-use mathlib.Core.Bool.{true, false, and-false}
+use mathlib.Core.Bool.{false, and-false}
 use native.Mathlib.Omega.{arith}
 use borrow.Author.Rules.{rules}
 use Rattle.model.specs.Lists.{every}
 use Rattle.model.specs.Sound.{valid_entry}
-use Rattle.layout.specs.Shape.{slot_shape}
 use Rattle.layout.specs.Held.{held_to}
 use Rattle.layout.proofs.ShapeLaws.{all_none, all_more, all-no}
 use Rattle.layout.proofs.HeldLaws.{held_none, every-yes, every-no}

@@ -1,5 +1,4 @@
 -- The proof of `Cursor::header`. Assumes nothing.
-use Prim.Native.Nat.{◌-◌}
 use Rattle.wire.proofs.Cursor.header.Goals as goal
 
 pub returns : goal.returns

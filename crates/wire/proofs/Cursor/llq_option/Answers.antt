@@ -1,5 +1,4 @@
 -- The proof of `Cursor::llq_option`. Assumes nothing.
-use Prim.Native.Nat.{◌-◌}
 use Rattle.wire.proofs.Cursor.llq_option.Goals as goal
 
 pub returns : goal.returns

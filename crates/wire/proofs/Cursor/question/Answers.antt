@@ -1,5 +1,4 @@
 -- The proof of `Cursor::question`. Assumes nothing.
-use Prim.Native.Nat.{◌-◌}
 use mathlib.Core.Path.{sym, ◌∙◌}
 use Rattle.wire.proofs.Reading as law
 use Rattle.wire.proofs.Cursor.question.Goals as goal

@@ -1,5 +1,5 @@
 -- The proof of `write::put_header`. Assumes nothing.
-use Prim.Native.Nat.{◌+◌, ◌-◌}
+use Prim.Native.Nat.{◌+◌}
 use native.Mathlib.Omega.{arith}
 use mathlib.Core.List.{[], ◌∷◌}
 use Rattle.wire.specs.Write.{header_sent}

@@ -1,5 +1,4 @@
 -- The proof of `write::put_option`. Assumes nothing.
-use Prim.Native.Nat.{◌-◌}
 use native.Mathlib.Omega.{arith}
 use mathlib.Core.List.{[], ◌∷◌}
 use Rattle.model.specs.Reply.{option_bytes}
