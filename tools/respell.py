@@ -12,8 +12,6 @@ import os
 import re
 import sys
 
-# spelled so by the toolchain
-KEEP = set()
 # a word of the library has a name of its own now
 WORDS = {"getD": "get_or"}
 
@@ -28,8 +26,6 @@ STRING = re.compile(r'b?"(?:[^"\\\n]|\\.)*"')
 
 
 def snake(part):
-    if part in KEEP:
-        return part
     if part in WORDS:
         return WORDS[part]
     if not re.match(r"[a-z][a-z0-9]*[A-Z]", part):
