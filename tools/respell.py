@@ -4,7 +4,7 @@
 usage: python3 tools/respell.py      at the top of a repository that port.py has turned
 
 In every .antt, .rt and .edit file of crates/: a name that begins with a small letter and has a capital in it (slotBytes, flagRD, getD-upTo) is written in snake case
-(slot_bytes, flag_rd, get_or-up_to), part by part where dashes join parts. Strings stay. The pages (README.md, docs/, oracle/README.md) get the same names between backticks.
+(slot_bytes, flag_rd, get_or-up_to), part by part where dashes join parts. Strings stay. The pages (README.md, docs/, oracle/README.md) get the same names between backticks, but for docs/landings, which keep the names of their day.
 A file of specs/ whose name Rattle takes for a module that it makes (claims/specs/Contracts.antt) gets another. It prints the names that fall together with one that was there before, to be looked at.
 """
 
@@ -50,11 +50,10 @@ def files(root):
 def pages(root):
     yield os.path.join(root, "README.md")
     yield os.path.join(root, "oracle", "README.md")
-    for folder, dirs, names in os.walk(os.path.join(root, "docs")):
-        dirs.sort()
-        for n in sorted(names):
-            if n.endswith(".md") and n != "PORT.md":
-                yield os.path.join(folder, n)
+    docs = os.path.join(root, "docs")
+    for n in sorted(os.listdir(docs)):
+        if n.endswith(".md") and n != "PORT.md":
+            yield os.path.join(docs, n)
 
 
 def rename_modules(root):
