@@ -28,6 +28,9 @@ STRING = re.compile(r'b?"(?:[^"\\\n]|\\.)*"')
 def snake(part):
     if part in WORDS:
         return WORDS[part]
+    # port.py takes the dash of some of these for one before a plain word
+    if part.startswith("getD_"):
+        return WORDS["getD"] + "-" + snake(part.removeprefix("getD_"))
     if not re.match(r"[a-z][a-z0-9]*[A-Z]", part):
         return part
     out = re.sub(r"([a-z0-9])([A-Z])", r"\1_\2", part)

@@ -10,7 +10,7 @@ use lib.Dec.{eqb, ltb}
 use borrow.Author.Tests.{eqb-true, ltb-true, ltb-false}
 use Rattle.model.specs.Lists.{every, up_to, same}
 use Rattle.model.specs.Names.{fold}
-use Rattle.model.proofs.ListLaws.{test, and_left, and_right, every-index, get_d_map, same_true}
+use Rattle.model.proofs.ListLaws.{test, and_left, and_right, every-index, get_or-map, same_true}
 use Rattle.claims.specs.Reading.{Folded}
 use Rattle.claims.specs.Samples.{one_label, run, every_byte, NamesAgree, read_by, FoldSettled}
 use Rattle.claims.proofs.Definitions.{all-definitions}
@@ -27,7 +27,7 @@ module _ (f : ℕ → ℕ) where
       let u = every-index (row_test stored sent n) 32 t j h in
       let a = eqb-true _ _ (and_left (eqb (get_or sent (j + 1) 0) (n + j)) (eqb (get_or stored (j + 1) 0) (fold (n + j))) u) in
       let b = eqb-true _ _ (and_right (eqb (get_or sent (j + 1) 0) (n + j)) (eqb (get_or stored (j + 1) 0) (fold (n + j))) u) in
-      sym (ap f a) ∙ sym (get_d_map f sent (j + 1) 0 0 (omega arith)) ∙ sym (ap (λ (x : List ℕ). get_or x (j + 1) 0) (same_true stored (map f sent) s)) ∙ b
+      sym (ap f a) ∙ sym (get_or-map f sent (j + 1) 0 0 (omega arith)) ∙ sym (ap (λ (x : List ℕ). get_or x (j + 1) 0) (same_true stored (map f sent) s)) ∙ b
 
   -- the bytes under n are settled
   abbrev SettledTo : ℕ → Type 0

@@ -12,8 +12,8 @@ use lib.Dec.{ltb}
 use borrow.Author.Tests.{ltb-true, ltb-false}
 use Rattle.model.specs.Numbers.{Bytes, big_endian, bytes_of, splice, encode}
 use Rattle.model.proofs.Fields.{width}
-use Rattle.model.proofs.ListLaws.{test, get_d_past}
-use Rattle.model.proofs.NumberLaws.{length-bytes, big-add, length_part, get_d_part, length-splice, length-encode}
+use Rattle.model.proofs.ListLaws.{test, get_or-past}
+use Rattle.model.proofs.NumberLaws.{length-bytes, big-add, length_part, get_or-part, length-splice, length-encode}
 use Rattle.claims.specs.NumbersInBytes.{value_at, Replaced, width_of, NumbersInBytes}
 
 -- BYTES
@@ -22,7 +22,7 @@ pub all-bytes : (s : List ℕ) → ((i : ℕ) → i < length s → get_or s i 0 
 all-bytes s h i =
     ⊎_elim
     (λ (t : ltb i (length s) ≡ true). h i (ltb-true i (length s) t))
-    (λ (t : ltb i (length s) ≡ false). rw (get_d_past s i 0 (ltb-false i (length s) t)) (omega arith))
+    (λ (t : ltb i (length s) ≡ false). rw (get_or-past s i 0 (ltb-false i (length s) t)) (omega arith))
     (test (ltb i (length s)))
 
 -- NUMBERS
@@ -104,7 +104,7 @@ numbers-in-bytes =
       width = length-bytes;
       digit = digit-is;
       part_size = length_part;
-      part_at = get_d_part;
+      part_at = get_or-part;
       spliced = replaced;
       fields_size = λ fs. length-encode fs ∙ widths fs;
       field_bytes = field-bytes;

@@ -12,8 +12,8 @@ use Rattle.model.specs.Lists.{keep, every}
 use Rattle.model.specs.Numbers.{big_endian, part}
 use Rattle.model.specs.Names.{upper, fold}
 use Rattle.model.specs.Query.{EdnsOption, good_option, option_at, option_end, options_fill, options_from, good_opt, good_question, good_questions, llq_options, llq_option, llq_at, qdcount, questions_end, question_start, question_at, name_at, matched}
-use Rattle.model.proofs.ListLaws.{one_of, test, never, and_left, and_right, and_both, length-map, get_d_map, every-at, at_every}
-use Rattle.model.proofs.NumberLaws.{get_d_part, length_part}
+use Rattle.model.proofs.ListLaws.{one_of, test, never, and_left, and_right, and_both, length-map, get_or-map, every-at, at_every}
+use Rattle.model.proofs.NumberLaws.{get_or-part, length_part}
 use Rattle.model.proofs.NameLaws.{upper_is, fold_same, question-within}
 use Rattle.model.proofs.QueryLaws.{good-at}
 use Rattle.claims.specs.Refusals.{two_bytes}
@@ -58,7 +58,7 @@ module _ (d : List ℕ) where
         name = λ j l.
             let j<k : j < k = omega (arith, h) in
             subst (Folded (get_or d (p + j) 0))
-            (sym (get_d_map fold (part p k d) j 0 0 (subst (λ (x : ℕ). j < x) (sym n) j<k) ∙ ap fold (get_d_part p k d j j<k)))
+            (sym (get_or-map fold (part p k d) j 0 0 (subst (λ (x : ℕ). j < x) (sym n) j<k) ∙ ap fold (get_or-part p k d j j<k)))
             (folded (get_or d (p + j) 0));
         qtype = big-two d (p + k) ∙ ap (λ (x : ℕ). two_bytes d x) h;
         qclass = big-two d (p + k + 2) ∙ ap (λ (x : ℕ). two_bytes d (x + 2)) h;
@@ -136,7 +136,7 @@ module _ (d : List ℕ) where
     start-at : (i : ℕ) → i < length ps → (get_or (llq_options d) i (record { code = 0; start = 0; size = 0 })).start ≡ get_or ps i 0 + 4
     unfolding option_at
     start-at i l = ap (λ (x : List EdnsOption). (get_or x i (record { code = 0; start = 0; size = 0 })).start) r
-        ∙ ap (λ (o : EdnsOption). o.start) (get_d_map (option_at d) ps i 0 (record { code = 0; start = 0; size = 0 }) l)
+        ∙ ap (λ (o : EdnsOption). o.start) (get_or-map (option_at d) ps i 0 (record { code = 0; start = 0; size = 0 }) l)
 
     option-read : (i : ℕ) → i < length ps → OptionRead d (get_or ps i 0) (llq_option d i)
     option-read i l = subst (λ (x : ℕ). OptionRead d (get_or ps i 0) (llq_at d x)) (sym (start-at i l)) (fields (get_or ps i 0))
@@ -147,7 +147,7 @@ module _ (d : List ℕ) where
     size-at : (i : ℕ) → i < length ps → (get_or (llq_options d) i (option_at d 0)).size ≡ two_bytes d (get_or ps i 0 + 2)
     unfolding option_at
     size-at i l = ap (λ (x : List EdnsOption). (get_or x i (option_at d 0)).size) r
-        ∙ ap (λ (o : EdnsOption). o.size) (get_d_map (option_at d) ps i 0 (option_at d 0) l)
+        ∙ ap (λ (o : EdnsOption). o.size) (get_or-map (option_at d) ps i 0 (option_at d 0) l)
         ∙ big-two d (get_or ps i 0 + 2)
 
     as_many : length (llq_options d) ≡ length ps

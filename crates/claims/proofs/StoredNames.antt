@@ -12,7 +12,7 @@ use lib.Dec.{eqb, leb, ltb}
 use borrow.Author.Tests.{eqb-true, eqb-false, eq-eqb, le-leb, ltb-true, ltb-false, lt-ltb, not-true}
 use Rattle.model.specs.Names.{upper, name_size, lower_name}
 use Rattle.model.specs.Query.{name_at}
-use Rattle.model.proofs.ListLaws.{test, never, and_left, and_right, and_both, get_d_past}
+use Rattle.model.proofs.ListLaws.{test, never, and_left, and_right, and_both, get_or-past}
 use Rattle.model.proofs.NameLaws.{upper_is, below-upper, size-end}
 use Rattle.claims.specs.Refusals.{Label, NameEnds}
 use Rattle.claims.specs.StoredNames.{StoredName, StoredNames}
@@ -42,7 +42,7 @@ none-upper zero (b ∷ s) h i = go (eqb b 0) (ltb b 64) refl refl h (none-upper 
     go : (u v : Bool) → eqb b 0 ≡ u → ltb b 64 ≡ v → cond u (eqb (length s) 0) (v && lower_name b s) ≡ true
         → (lower_name b s ≡ true → (i : ℕ) → upper (get_or s i 0) ≡ false) → (i : ℕ) → upper (get_or (b ∷ s) i 0) ≡ false
     go true v eu ev e r zero = below-upper b (omega (arith, eqb-true b 0 eu))
-    go true v eu ev e r (suc i) = rw (get_d_past s i 0 (omega (arith, eqb-true (length s) 0 e)))
+    go true v eu ev e r (suc i) = rw (get_or-past s i 0 (omega (arith, eqb-true (length s) 0 e)))
     go false true eu ev e r zero = below-upper b (omega (arith, ltb-true b 64 ev))
     go false true eu ev e r (suc i) = r e i
     go false false eu ev e r i = never e refl

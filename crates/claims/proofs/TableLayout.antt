@@ -16,7 +16,7 @@ use Rattle.model.specs.Clock.{Weeks, ten_bit, thirteen_bit}
 use Rattle.model.specs.Table.{Line, Entry, Slot, free, held, Layout, Table, clock_kind, place_bytes, running_at, lines_at, base, line_at, slot_at, size_of, entry_fields, kind_of, clock_bytes, line_bytes, unused_line, slot_bytes, roster_bytes, table_bytes, read_line, read_entry}
 use Rattle.model.specs.Sound.{FitsLine, FitsEntry, FitsSlot, Fits}
 use Rattle.model.proofs.ListLaws.{test, length-flat, length-up_to}
-use Rattle.model.proofs.NumberLaws.{big_lt, bytes-big, big-ext, big-one, get_d_part, length-encode, encode-first}
+use Rattle.model.proofs.NumberLaws.{big_lt, bytes-big, big-ext, big-one, get_or-part, length-encode, encode-first}
 use Rattle.model.proofs.SlotLaws.{length-line, length-unused, kind-lt, entry-back, line-back, field-behind}
 use Rattle.model.proofs.TableLaws.{flat-cut, length_front, length-roster, length-clock, bytes-table, fits-rows, length-table, clock_fields, clock-starts}
 use Rattle.model.proofs.RoundTrip.{no_line, table-back}
@@ -290,7 +290,7 @@ module _ (b c : List ℕ) where
     number at k h p q i l =
         let e : big_endian b at k ≡ big_endian c at k = value-is b at k ∙ p ∙ sym (value-is c at k ∙ q) in
         let s : part at k b ≡ part at k c = sym (bytes-big b at k ob h) ∙ ap (bytes_of k) e ∙ bytes-big c at k oc (omega arith) in
-        sym (get_d_part at k b i l) ∙ ap (λ (z : List ℕ). get_or z i 0) s ∙ get_d_part at k c i l
+        sym (get_or-part at k b i l) ∙ ap (λ (z : List ℕ). get_or z i 0) s ∙ get_or-part at k c i l
 
     same-zeros : (at first body : ℕ) → ZeroRecord b at first body → ZeroRecord c at first body → Alike at (1 + body)
     unfolding Alike

@@ -16,7 +16,7 @@ use Rattle.model.specs.Table.{Line, Entry, Slot, free, held, Table}
 use Rattle.model.specs.Rules.{Holding, holding, entries_of, holdings, Counts, held_by, share_of, limit_of, reserve, full}
 use Rattle.model.specs.Sound.{live, Sound}
 use Rattle.model.specs.Serve.{slot_run_out, free_if_run_out, is_free, has, find_entry, slot_of}
-use Rattle.model.proofs.ListLaws.{never, or_right, count_set, count-any, count_at, get_d_past, index-le, index-hit, index-none, index-some, one_place}
+use Rattle.model.proofs.ListLaws.{never, or_right, count_set, count-any, count_at, get_or-past, index-le, index-hit, index-none, index-some, one_place}
 
 -- FREE AND HELD
 
@@ -37,7 +37,7 @@ held_in_lem s i e q = go (ltb i (length s)) refl
   where
     go : (v : Bool) → ltb i (length s) ≡ v → i < length s
     go true h = ltb-true i (length s) h
-    go false h = not-held e (sym (get_d_past s i free (ltb-false i (length s) h)) ∙ q)
+    go false h = not-held e (sym (get_or-past s i free (ltb-false i (length s) h)) ∙ q)
 
 -- HOW MANY
 

@@ -179,20 +179,20 @@ module _ {A B : Type 0} where
   length-map f [] = refl
   length-map f (x ∷ l) = ap suc (length-map f l)
 
-  pub get_d_map : (f : A → B) (l : List A) (i : ℕ) (d : A) (e : B) → i < length l → get_or (map f l) i e ≡ f (get_or l i d)
-  get_d_map f [] i d e h = absurd (omega arith)
-  get_d_map f (x ∷ l) zero d e h = refl
-  get_d_map f (x ∷ l) (suc i) d e h = get_d_map f l i d e (omega arith)
+  pub get_or-map : (f : A → B) (l : List A) (i : ℕ) (d : A) (e : B) → i < length l → get_or (map f l) i e ≡ f (get_or l i d)
+  get_or-map f [] i d e h = absurd (omega arith)
+  get_or-map f (x ∷ l) zero d e h = refl
+  get_or-map f (x ∷ l) (suc i) d e h = get_or-map f l i d e (omega arith)
 
-pub get_d_any : {A : Type 0} (l : List A) (i : ℕ) (d e : A) → i < length l → get_or l i d ≡ get_or l i e
-get_d_any [] i d e h = absurd (omega arith)
-get_d_any (x ∷ l) zero d e h = refl
-get_d_any (x ∷ l) (suc i) d e h = get_d_any l i d e (omega arith)
+pub get_or-any : {A : Type 0} (l : List A) (i : ℕ) (d e : A) → i < length l → get_or l i d ≡ get_or l i e
+get_or-any [] i d e h = absurd (omega arith)
+get_or-any (x ∷ l) zero d e h = refl
+get_or-any (x ∷ l) (suc i) d e h = get_or-any l i d e (omega arith)
 
-pub get_d_past : {A : Type 0} (l : List A) (i : ℕ) (d : A) → length l ≤ i → get_or l i d ≡ d
-get_d_past [] i d h = refl
-get_d_past (x ∷ l) zero d h = absurd (omega arith)
-get_d_past (x ∷ l) (suc i) d h = get_d_past l i d (omega arith)
+pub get_or-past : {A : Type 0} (l : List A) (i : ℕ) (d : A) → length l ≤ i → get_or l i d ≡ d
+get_or-past [] i d h = refl
+get_or-past (x ∷ l) zero d h = absurd (omega arith)
+get_or-past (x ∷ l) (suc i) d h = get_or-past l i d (omega arith)
 
 -- a count by a key may be read either way round
 pub count-flip : {A : Type 0} (key : A → ℕ) (l : List A) (z : ℕ) → count l (λ x. eqb z (key x)) ≡ count l (λ x. eqb (key x) z)

@@ -74,9 +74,9 @@ pub length_part : (at k : ℕ) (s : List ℕ) → at + k ≤ length s → length
 unfolding part
 length_part at k s h = simp (length-take, length-drop) (omega arith)
 
-pub get_d_part : (at k : ℕ) (s : List ℕ) (i : ℕ) → i < k → get_or (part at k s) i 0 ≡ get_or s (at + i) 0
+pub get_or-part : (at k : ℕ) (s : List ℕ) (i : ℕ) → i < k → get_or (part at k s) i 0 ≡ get_or s (at + i) 0
 unfolding part
-get_d_part at k s i h = rw (get_or-take, get_or-drop)
+get_or-part at k s i h = rw (get_or-take, get_or-drop)
 
 pub length-splice : (at k : ℕ) (vs s : List ℕ) → length vs ≡ k → at + k ≤ length s → length (splice at k vs s) ≡ length s
 unfolding splice
@@ -89,7 +89,7 @@ big-ext s t a b (suc k) h = rw (big-ext s t a b k (λ i l. h i (omega arith)), h
 
 pub big-part : (s : List ℕ) (b m at k : ℕ) → at + k ≤ m → big_endian (part b m s) at k ≡ big_endian s (b + at) k
 big-part s b m at k l =
-    big-ext (part b m s) s at (b + at) k (λ i h. get_d_part b m s (at + i) (omega arith) ∙ ap (λ (j : ℕ). get_or s j 0) (omega arith))
+    big-ext (part b m s) s at (b + at) k (λ i h. get_or-part b m s (at + i) (omega arith) ∙ ap (λ (j : ℕ). get_or s j 0) (omega arith))
 
 -- what the whole is once `&mut t[a..e]`, with e = a + k, has come back holding vs
 pub lent_is : (t : List ℕ) (k : ℕ) {a b : ℕ} {vs ws : List ℕ} → a ≡ b → vs ≡ ws → take a t ++ (vs ++ drop (a + k - a) (drop a t)) ≡ splice b k ws t

@@ -17,7 +17,7 @@ use Rattle.model.specs.Table.{Entry, Slot, free, held, Table, place_width, place
 use Rattle.model.specs.Rules.{Holding, holding, entries_of, holdings, asks, full, granted_lease}
 use Rattle.model.specs.Sound.{live, valid_lease, FitsEntry, FitsSlot, Fits, Sound}
 use Rattle.model.specs.Serve.{with_clock, with_slots, with_slot, slot_run_out, free_if_run_out, free_run_out, moved_on, is_free, find_entry, slot_of, Sender, Kind, bad_version, bad_format, setup, response, refresh, Served, kind_of_option, new_entry, retry_later, granted, establish, renew, answers, refreshes, on_setup, serve_setup, on_response, serve_response, on_refresh, serve_refresh, serve_kind, serve_option}
-use Rattle.model.proofs.ListLaws.{and_left, and_right, none-every, count-both, get_d_past, length-map}
+use Rattle.model.proofs.ListLaws.{and_left, and_right, none-every, count-both, get_or-past, length-map}
 use Rattle.model.proofs.ClockLaws.{advance-place, advance-running, ages}
 use Rattle.model.proofs.NameLaws.{question-short, question-bytes, question-qtype, question-qclass}
 use Rattle.model.proofs.FreshLaws.{fresh-lt}
@@ -133,7 +133,7 @@ fits-slot-of t i f = go (ltb i (length t.slots)) refl
   where
     go : (v : Bool) → ltb i (length t.slots) ≡ v → FitsSlot (slot_of t i)
     go true h = f.slots i (ltb-true i (length t.slots) h)
-    go false h = rw (get_d_past t.slots i free (ltb-false i (length t.slots) h)) tt
+    go false h = rw (get_or-past t.slots i free (ltb-false i (length t.slots) h)) tt
 
 -- THE CLOCK MOVED AND RUN-OUT ENTRIES FREED
 

@@ -15,7 +15,7 @@ use Rattle.model.specs.Table.{Line, Slot, free, held, Layout, Table, slot_bytes,
 use Rattle.model.specs.Sound.{FitsSlot, Fits}
 use Rattle.model.specs.Serve.{with_slot, with_clock}
 use Rattle.model.proofs.NumberLaws.{splice-none, splice-splice, splice-mid, length-encode, encode-first, bytes-nil, bytes-append, bytes-cons, bytes-encode, bytes-zeros}
-use Rattle.model.proofs.ListLaws.{get_d_any, up_to-none, flat_append, flat-next, length-flat, length-rows}
+use Rattle.model.proofs.ListLaws.{get_or-any, up_to-none, flat_append, flat-next, length-flat, length-rows}
 use Rattle.model.proofs.SlotLaws.{fits-short, length-slot, length-line, length-unused}
 
 -- ROWS of one width
@@ -111,7 +111,7 @@ bytes-table t f =
 
 module _ (t : Table) (lines : length t.roster ≤ 16) (f : Fits t) where
   pub fits-rows : (i : ℕ) (d : Slot) → i < length t.slots → length (slot_bytes (get_or t.slots i d)) ≡ 320
-  fits-rows i d l = rw (get_d_any t.slots i d free l) (length-slot (get_or t.slots i free) (fits-short (get_or t.slots i free) (f.slots i l)))
+  fits-rows i d l = rw (get_or-any t.slots i d free l) (length-slot (get_or t.slots i free) (fits-short (get_or t.slots i free) (f.slots i l)))
 
   length-head : length (clock_bytes t.layout t.clock ++ roster_bytes t.roster) ≡ base t.layout
   length-head = rw (length-append, length-clock t.layout t.clock, length-roster t.roster lines)

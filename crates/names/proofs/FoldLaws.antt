@@ -6,7 +6,7 @@ use mathlib.Core.List.{List, [], ◌∷◌, map}
 use lib.ListN.{length, get_or, take, drop, set}
 use Rattle.model.specs.Numbers.{part, splice}
 use Rattle.model.specs.Names.{fold}
-use Rattle.model.proofs.ListLaws.{length-map, get_d_map}
+use Rattle.model.proofs.ListLaws.{length-map, get_or-map}
 use Rattle.model.proofs.NumberLaws.{copy_step}
 
 module _ (f : ℕ → ℕ) where
@@ -26,7 +26,7 @@ module _ (f : ℕ → ℕ) where
 
 -- byte i of the folded list
 pub folded-at : (d : List ℕ) (i : ℕ) → i < length d → get_or (map fold d) i 0 ≡ fold (get_or d i 0)
-folded-at d i h = get_d_map fold d i 0 0 h
+folded-at d i h = get_or-map fold d i 0 0 h
 
 -- a turn of a copy
 pub fold_step : (at from i : ℕ) (d s : List ℕ) → from + i < length d → at + i < length s

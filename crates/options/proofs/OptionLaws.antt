@@ -20,7 +20,7 @@ use Rattle.model.specs.Sound.{FitsEntry}
 use Rattle.model.specs.Serve as serve
 use Rattle.model.specs.Serve.{has, is_free, find_entry, slot_of, with_slot, life_left, new_entry, granted, on_setup, serve_setup, answers, establish, on_response, serve_response, refreshes, renew, on_refresh, serve_refresh, ended, serve_kind, serve_option, kind_of_option}
 use Rattle.model.proofs.NumberLaws.{big_lt, bytes_drop}
-use Rattle.model.proofs.ListLaws.{index-hit, get_d_past, get_or-up_to, length-up_to}
+use Rattle.model.proofs.ListLaws.{index-hit, get_or-past, get_or-up_to, length-up_to}
 use Rattle.model.proofs.Meaning.{fits-entry, slots-count}
 use Rattle.model.proofs.StepLaws.{fits-establish, fits-renew}
 use Rattle.layout.specs.Shape.{in_use, slots_to, lines_to}
@@ -92,7 +92,7 @@ module _ (b : List ℕ) (bytes : Bytes b) (formed : WellFormed b) (n : ℕ) (siz
     found-slot l = ap (slot_of (read_table b)) (sym found-index) ∙ at_slot i l ∙ found-held l
 
     pub lost-slot : n ≤ i → slot_of (read_table b) (find_entry p (read_table b)) ≡ free
-    lost-slot l = ap (slot_of (read_table b)) (sym found-index) ∙ get_d_past (read_table b).slots i free (rw (slots-count b lay n size) l)
+    lost-slot l = ap (slot_of (read_table b)) (sym found-index) ∙ get_or-past (read_table b).slots i free (rw (slots-count b lay n size) l)
 
   -- GRANTED
 

@@ -11,7 +11,7 @@ use borrow.Author.Tests.{ne_eqb, eqb-true}
 use Rattle.model.specs.Lists.{every}
 use Rattle.model.specs.Query.{wrong_size, qdcount, good_header, good_questions, questions_end, opt_data, options_fill, good_opt, EdnsOption, llq_options, llq_at, llq_option, matched}
 use Rattle.model.specs.Calls.{refusal}
-use Rattle.model.proofs.ListLaws.{and_left, and_right, length-map, get_d_map}
+use Rattle.model.proofs.ListLaws.{and_left, and_right, length-map, get_or-map}
 use Rattle.model.proofs.QueryLaws.{start-min}
 use Rattle.wire.specs.Records.{padded, option_of, option_record}
 use Rattle.wire.specs.Read.{good_opt_record}
@@ -119,7 +119,7 @@ module _ (d : List ℕ) (h : QueryHeader) (he : QueryHeaderOf d h) (q : Question
                 let t : take 8 (map value (llq_options d)) ≡ map value (llq_options d) = take_all 8 (map value (llq_options d)) (omega arith) in
                 let g : get_or o.all i e ≡ value (get_or (llq_options d) i (record { code = 0; start = 0; size = 0 })) =
                 rw (a, t) (pad-at 8 blank_option (map value (llq_options d)) i e (omega arith)
-                ∙ get_d_map value (llq_options d) i (record { code = 0; start = 0; size = 0 }) e (omega arith)) in
+                ∙ get_or-map value (llq_options d) i (record { code = 0; start = 0; size = 0 }) e (omega arith)) in
                 ap option_of g
 
             pub holds : QueryOf d (record { number = h.number; desired = h.desired; count = h.count; questions = q.all; options = o.all; end = q.next.at; matched = match_of o.count h.count o.sized })

@@ -15,7 +15,7 @@ use Rattle.model.specs.Table.{Slot, free, Table, slot_bytes, place_bytes, table_
 use Rattle.model.specs.Sound.{FitsSlot}
 use Rattle.model.specs.Serve.{with_clock, with_slots, slot_run_out, free_if_run_out, free_run_out, moved_on, ended}
 use Rattle.model.specs.Calls.{freed_by}
-use Rattle.model.proofs.ListLaws.{count-append, get_d_any, length-up_to, get_or-up_to}
+use Rattle.model.proofs.ListLaws.{count-append, get_or-any, length-up_to, get_or-up_to}
 use Rattle.model.proofs.SlotLaws.{length-slot, fits-short, slot-back}
 use Rattle.model.proofs.TableLaws.{flat-cut, flat-set, length_front, clock_fields}
 use Rattle.model.proofs.Meaning.{fits_read, fits-slot, lines-read}
@@ -68,7 +68,7 @@ module _ (g : Slot → Slot) where
 
 module _ (s : List Slot) (fits : (j : ℕ) → j < length s → FitsSlot (get_or s j free)) where
   rows : (i : ℕ) (d : Slot) → i < length s → length (slot_bytes (get_or s i d)) ≡ 320
-  rows i d l = rw (get_d_any s i d free l) (length-slot (get_or s i free) (fits-short (get_or s i free) (fits i l)))
+  rows i d l = rw (get_or-any s i d free l) (length-slot (get_or s i free) (fits-short (get_or s i free) (fits i l)))
 
   row_read : (i : ℕ) → i < length s → read_slot (flat slot_bytes s) (320 * i) ≡ get_or s i free
   row_read i l =

@@ -11,7 +11,7 @@ use Rattle.model.proofs.Fields.{offset}
 use Rattle.model.specs.Query.{message_number, flag_rd, qdcount, questions_end}
 use Rattle.model.specs.Serve.{Outcome}
 use Rattle.model.specs.Reply.{header_bytes, question_bytes, opt_bytes, option_bytes, reply_bytes}
-use Rattle.model.proofs.NumberLaws.{get_d_part, bytes-nil, bytes-append, bytes-part, bytes-encode}
+use Rattle.model.proofs.NumberLaws.{get_or-part, bytes-nil, bytes-append, bytes-part, bytes-encode}
 use Rattle.model.proofs.ListLaws.{length-flat}
 use Rattle.model.proofs.ReplyLaws.{length-header, length-questions, length-opt, length-option}
 use Rattle.model.proofs.SlotLaws.{field-behind}
@@ -89,7 +89,7 @@ module _ (d : List ℕ) (os : List Outcome) (rest : List ℕ) (low : 12 ≤ ques
       ∙ ap (λ (j : ℕ). get_or (header_bytes d ++ (question_bytes d ++ tail)) j 0) e
       ∙ get_or-append-add (header_bytes d) (question_bytes d ++ tail) (i - 12) 0
       ∙ get_or-append (question_bytes d) tail 0 (i - 12) (omega (arith, length-questions d low high))
-      ∙ get_d_part 12 (questions_end d - 12) d (i - 12) (omega arith)
+      ∙ get_or-part 12 (questions_end d - 12) d (i - 12) (omega arith)
       ∙ ap (λ (j : ℕ). get_or d j 0) f
 
   -- what stands before the OPT record
