@@ -2,7 +2,7 @@
 // The clock moves in `stepped` alone. It is lent to `advance`; other crates call `advanced`, which lends it a copy.
 #![tactic(auto)]
 
-ghost use Rattle.std.specs.Prelude.{◌≡◌, ◌<◌};
+ghost use Rattle.std.specs.Prelude.{◌≡◌, ◌+◌, ◌^◌, ◌<◌};
 ghost use Rattle.model.specs.Clock.{ten_bit, thirteen_bit, weeks_in, cycle_of, valid_reading, place_of, age_at, run_out};
 ghost use Rattle.model.specs.Clock.{step as step_of, advance as advance_of};
 ghost use Rattle.layout.specs.Weeks.{weeks_of};
@@ -13,9 +13,9 @@ use layout::Weeks;
 const WEEK: u32 = 604800;
 
 // 1,024 weeks of seconds, and 8,192.
-const TEN_CYCLE: u32 = 1024 * WEEK;
+const TEN_CYCLE: u64 = 1024 * WEEK as u64;
 
-const TEN_HALF: u32 = TEN_CYCLE / 2;
+const TEN_HALF: u64 = TEN_CYCLE / 2;
 
 const THIRTEEN_CYCLE: u64 = 8192 * WEEK as u64;
 
@@ -46,7 +46,7 @@ pub fn cycle(weeks: Weeks) -> u64
     ensures { result ≡ cycle_of (weeks_of weeks) }
 {
     match weeks {
-        Weeks::Ten => TEN_CYCLE as u64,
+        Weeks::Ten => TEN_CYCLE,
         Weeks::Thirteen => THIRTEEN_CYCLE,
     }
 }
@@ -65,41 +65,40 @@ pub fn valid(weeks: Weeks, week: u32, second: u32) -> bool
 pub fn place(week: u32, second: u32) -> u64
     ensures { result ≡ place_of week second }
 {
-    week as u64 * WEEK as u64 + second as u64
+    u64::from(week) * u64::from(WEEK) + u64::from(second)
 }
 
-// With weeks of ten bits: the step from the last place to a new one, brought by whole cycles into −309,657,600 to 309,657,599.
+// The step from the last place to a new one in a cycle, brought by whole cycles into −half to half − 1.
+fn step_in(cycle: u64, half: u64, from: u64, to: u64) -> i64
+    requires { (cycle ≡ half + half) × (cycle < 2 ^ 63) × (from < cycle) × (to < cycle) }
+    ensures { result ≡ step_of cycle from to }
+{
+    let ahead = if from <= to {
+        to - from
+    } else {
+        to + (cycle - from)
+    };
+    if ahead < half {
+        ahead as i64
+    } else {
+        ahead as i64 - cycle as i64
+    }
+}
+
+// With weeks of ten bits: into −309,657,600 to 309,657,599.
 pub fn step(from: u32, to: u32) -> i32
     requires { (from < cycle_of ten_bit) × (to < cycle_of ten_bit) }
     ensures { result ≡ step_of (cycle_of ten_bit) from to }
 {
-    let ahead = if from <= to {
-        to - from
-    } else {
-        to + (TEN_CYCLE - from)
-    };
-    if ahead < TEN_HALF {
-        ahead as i32
-    } else {
-        ahead as i32 - TEN_CYCLE as i32
-    }
+    step_in(TEN_CYCLE, TEN_HALF, u64::from(from), u64::from(to)) as i32
 }
 
-// With weeks of thirteen bits: the same into −2,477,260,800 to 2,477,260,799, which an i32 does not hold.
+// With weeks of thirteen bits: into −2,477,260,800 to 2,477,260,799, which an i32 does not hold.
 pub fn step_wide(from: u64, to: u64) -> i64
     requires { (from < cycle_of thirteen_bit) × (to < cycle_of thirteen_bit) }
     ensures { result ≡ step_of (cycle_of thirteen_bit) from to }
 {
-    let ahead = if from <= to {
-        to - from
-    } else {
-        to + (THIRTEEN_CYCLE - from)
-    };
-    if ahead < THIRTEEN_HALF {
-        ahead as i64
-    } else {
-        ahead as i64 - THIRTEEN_CYCLE as i64
-    }
+    step_in(THIRTEEN_CYCLE, THIRTEEN_HALF, from, to)
 }
 
 // The one or the other.
@@ -108,13 +107,14 @@ pub fn step_of(weeks: Weeks, from: u64, to: u64) -> i64
     ensures { result ≡ step_of (cycle_of (weeks_of weeks)) from to }
 {
     match weeks {
-        Weeks::Ten => step(from as u32, to as u32) as i64,
+        Weeks::Ten => i64::from(step(from as u32, to as u32)),
         Weeks::Thirteen => step_wide(from, to),
     }
 }
 
 // "A step of 0 or more is added to the running count, modulo 4,294,967,296, and the new place is kept." "A negative step of 60 seconds or less
-// changes nothing. A larger one leaves the running count and keeps the new place."
+// changes nothing. A larger one leaves the running count and keeps the new place." That the places lie in the cycle stays a clause here and below: a
+// clock is document 01's two numbers and does not know its weeks.
 fn stepped(c: Clock, weeks: Weeks, to: u64) -> Clock
     requires { (c.place < cycle_of (weeks_of weeks)) × (to < cycle_of (weeks_of weeks)) }
     ensures { clock_of result ≡ advance_of (cycle_of (weeks_of weeks)) (clock_of c) to }
@@ -131,7 +131,7 @@ fn stepped(c: Clock, weeks: Weeks, to: u64) -> Clock
     }
     Clock {
         place: to,
-        running: std::num::wrapping_add_u32(c.running, s as u32),
+        running: c.running.wrapping_add(s as u32),
     }
 }
 
@@ -157,7 +157,7 @@ pub fn advanced(c: Clock, weeks: Weeks, to: u64) -> Clock
 pub fn age(running: u32, stamp: u32) -> u32
     ensures { result ≡ age_at running stamp }
 {
-    std::num::wrapping_sub_u32(running, stamp)
+    running.wrapping_sub(stamp)
 }
 
 // An entry has run out when its age is at least its lease.

@@ -1,5 +1,5 @@
 -- Who holds an entry and what it asks, field by field as the code compares it. Assumes nothing.
-use Rattle.std.proofs.Common.{◌≡◌, ℕ, ◌+◌, ◌^◌, ◌<◌, Bool, true, false, ◌&&◌, eqb, List, map, get_or, sym, refl}
+use Rattle.std.proofs.Common.{◌≡◌, ℕ, ◌+◌, ◌^◌, ◌<◌, Bool, true, false, ◌&&◌, ◌==◌, eqb, List, map, get_or, sym, refl}
 use Rattle.model.specs.Lists.{same}
 use Rattle.model.specs.Numbers.{Bytes, big_endian, part}
 use Rattle.model.specs.Names.{fold}
@@ -11,26 +11,31 @@ use Rattle.layout.proofs.AddressLaws.{address_is, halves_are}
 use Rattle.wire.specs.declared.Question.{Question}
 use Rattle.wire.specs.Records.{question_of}
 use Rattle.entries.specs.declared.Sender.{Sender}
-use Rattle.entries.specs.Reads.{sender_of, entry_at, same_fields}
+use Rattle.entries.specs.declared.Entry.{Entry}
+use Rattle.entries.specs.Reads.{sender_of, entry_at}
 
--- the model's order of the tests and the code's
+-- the entry has the sender's address and port, and the question's type and class
+abbrev pub same_fields : Entry → Sender → Question → Bool
+same_fields e s q =
+    ((((e.sender.address.high == s.address.high && e.sender.address.low == s.address.low) && e.sender.port == s.port) && e.qtype == q.qtype) && e.qclass == q.qclass)
+
+-- the code's order of the tests and the model's
 reorder : (low high port qtype qclass name : Bool)
-    → (low && (high && (port && (qtype && qclass)))) && name ≡ high && low && port && qtype && qclass && name
+    → ((((high && low) && port) && qtype) && qclass) && name ≡ high && low && port && qtype && qclass && name
+reorder low false port qtype qclass name = refl
 reorder false true port qtype qclass name = refl
-reorder false false port qtype qclass name = refl
-reorder true false port qtype qclass name = refl
 reorder true true false qtype qclass name = refl
 reorder true true true false qclass name = refl
 reorder true true true true qclass name = refl
 
-module _ (b : List ℕ) (bytes : Bytes b) (at : ℕ) (s : Sender) (low : s.low < 2 ^ 64) (d : List ℕ) (q : Question) where
+module _ (b : List ℕ) (bytes : Bytes b) (at : ℕ) (s : Sender) (low : s.address.low < 2 ^ 64) (d : List ℕ) (q : Question) where
   pub asks-are : asks (sender_of s).address s.port (question_of d q) (holding_at 0 b at)
-      ≡ same_fields (entry_at b at) s q && same (part (at + 40) (entry_at b at).len b) (map fold (part q.start q.len d))
+      ≡ same_fields (entry_at b at) s q && same (part (at + 40) (get_or b (at + 39) 0) b) (map fold (part q.start q.len d))
   unfolding holding_at read_entry entry_at
   asks-are =
       let address = address_is b at refl refl in
-      let halves = halves_are (2 ^ 64) (big_endian b (at + 1) 8) (big_endian b (at + 9) 8) s.high s.low (big_lt b (at + 9) 8 bytes) low in
+      let halves = halves_are (2 ^ 64) (big_endian b (at + 1) 8) (big_endian b (at + 9) 8) s.address.high s.address.low (big_lt b (at + 9) 8 bytes) low in
       rw (address, halves)
-      (sym (reorder (eqb (big_endian b (at + 9) 8) s.low) (eqb (big_endian b (at + 1) 8) s.high) (eqb (big_endian b (at + 17) 2) s.port)
+      (sym (reorder (eqb (big_endian b (at + 9) 8) s.address.low) (eqb (big_endian b (at + 1) 8) s.address.high) (eqb (big_endian b (at + 17) 2) s.port)
       (eqb (big_endian b (at + 35) 2) q.qtype) (eqb (big_endian b (at + 37) 2) q.qclass)
       (same (part (at + 40) (get_or b (at + 39) 0) b) (map fold (part q.start q.len d)))))

@@ -1,23 +1,29 @@
 -- Laws for loops over a table's slots: what is found, what is in use, what is full. Assumes nothing.
-use Rattle.std.proofs.Common.{◌≡◌, ℕ, zero, suc, ◌+◌, ◌-◌, ◌*◌, ◌%◌, ◌^◌, ◌<◌, ◌≤◌, Bool, true, false, cond, not, ◌&&◌, ◌||◌, eqb, ltb, leb, List, get_or, sym, refl, ap, ◌∙◌, true≢false, arith, ltb-false, ltb-true, le-ltb, lt-ltb, le-leb}
+use Rattle.std.proofs.Common.{◌≡◌, ℕ, zero, suc, ◌+◌, ◌-◌, ◌*◌, ◌%◌, ◌^◌, ◌<◌, ◌≤◌, Bool, true, false, cond, not, ◌&&◌, ◌||◌, eqb, ltb, leb, List, Option, Some, None, MatchOption, get_or, add-one, zero-add, length, sym, refl, ap, ◌∙◌, arith, ltb-false, ltb-true, le-ltb, lt-ltb, le-leb}
 use borrow.Author.Tests.{lt-leb}
-use mathlib.Core.Bool.{and-false}
+use Rattle.std.specs.Bool.{MatchBool}
+use Rattle.std.specs.List.{AllWithin, HoldsAt, range_with_len}
+use Rattle.std.proofs.lemmas.List.FromFn.{length-range_with_len, get_or-range_with_len}
 use Rattle.model.specs.Lists.{count, any, index_of}
+use Rattle.model.specs.Numbers.{big_endian}
 use Rattle.model.specs.Clock.{age_at}
-use Rattle.model.specs.Table.{Slot, free, held, read_entry, read_slot, listed}
+use Rattle.model.specs.Table.{Slot, free, held as taken, read_entry, read_slot, listed}
 use Rattle.model.specs.Rules.{Holding, holding, held_by, numbered, Counts, share_of, limit_of, reserve, full, fresh_number}
-use Rattle.model.specs.Serve.{in_span, right_lease, has}
-use Rattle.model.proofs.ListLaws.{count_at, every-nil, every-next, every-not, index-up_to, index-up_to-none, length-up_to, get_or-up_to, up_to-none}
+use Rattle.model.specs.Serve.{is_free, in_span, right_lease, has}
+use Rattle.model.proofs.ListLaws.{not-both, and_left, count_at, every-nil, every-next, every-not, index-up_to, index-up_to-none, length-up_to, get_or-up_to, up_to-none}
 use Rattle.model.proofs.HoldingLaws.{count_entries}
+use Rattle.layout.proofs.ReadLaws.{read_held, read-free}
 use Rattle.layout.specs.Shape.{in_use, slots_to, lines_to}
-use Rattle.layout.specs.Held.{held_to}
+use Rattle.layout.specs.Held.{holding_at, held_to}
 use Rattle.record.specs.declared.State.{State}
-use Rattle.record.specs.State.{has_entry, is_established}
-use Rattle.record.proofs.StateLaws.{kind-in, established-is}
-use Rattle.entries.specs.declared.Entry.{Entry}
+use Rattle.record.specs.State.{state_of, is_established}
+use Rattle.record.proofs.StateLaws.{established-is}
+use Rattle.roster.specs.declared.Lines.{Lines}
+use Rattle.roster.specs.Lines.{lines_of}
+use Rattle.holdings.specs.declared.Slots.{Slots}
+use Rattle.holdings.specs.Slots.{held_in}
 use Rattle.entries.specs.declared.Found.{Found}
-use Rattle.entries.specs.declared.Found.TheVariants.{Slot as slot, Nothing as nothing}
-use Rattle.entries.specs.Reads.{sent, entry_at, found_at, slot_has, none_to}
+use Rattle.entries.specs.Reads.{sent, entry_at, found_at, none_to}
 
 -- ONE SLOT
 
@@ -26,7 +32,7 @@ module _ (r : ℕ) (p : Holding → Bool) (b : List ℕ) (at : ℕ) where
   unfolding has read_slot
   has-is = go (in_use (get_or b at 0))
     where
-      go : (v : Bool) → has r p (cond v (held (read_entry b at)) free) ≡ v && p (holding r (read_entry b at))
+      go : (v : Bool) → has r p (cond v (taken (read_entry b at)) free) ≡ v && p (holding r (read_entry b at))
       go true = refl
       go false = refl
 
@@ -36,90 +42,93 @@ module _ (r : ℕ) (p : Holding → Bool) (b : List ℕ) (at : ℕ) where
   pub has-out : in_use (get_or b at 0) ≡ false → has r p (read_slot b at) ≡ false
   has-out h = has-is ∙ rw h
 
--- a slot whose entry fails the test has none that passes
-pub has-never : (r : ℕ) (p : Holding → Bool) (b : List ℕ) (at : ℕ) → p (holding r (read_entry b at)) ≡ false → has r p (read_slot b at) ≡ false
-has-never r p b at e = has-is r p b at ∙ rw e (and-false (in_use (get_or b at 0)))
+-- the code's test of a slot by its kind and entry
+pub has-told : (b : List ℕ) (at : ℕ) (p : Holding → Bool) {v : Bool} → v ≡ in_use (get_or b at 0) && p (holding_at 0 b at) → v ≡ has 0 p (read_slot b at)
+unfolding holding_at
+has-told b at p e = e ∙ sym (has-is 0 p b at)
 
--- two tests that agree on the slot's entry, each at its running count
-pub has_same : (r k : ℕ) (p q : Holding → Bool) (b : List ℕ) (at : ℕ) → p (holding r (read_entry b at)) ≡ q (holding k (read_entry b at))
-    → has r p (read_slot b at) ≡ has k q (read_slot b at)
-has_same r k p q b at e = has-is r p b at ∙ ap (λ (v : Bool). in_use (get_or b at 0) && v) e ∙ sym (has-is k q b at)
+-- by a test q of the kind and of the entry, which each entry that passes p passes
+module _ (r : ℕ) (p : Holding → Bool) (b : List ℕ) (at : ℕ) (q : Holding → Bool) where
+  pub has-likely : in_use (get_or b at 0) && q (holding_at 0 b at) ≡ true → has r p (read_slot b at) ≡ p (holding r (read_entry b at))
+  has-likely h = has_in r p b at (and_left (in_use (get_or b at 0)) (q (holding_at 0 b at)) h)
+
+  pub has-unlikely : (q (holding_at 0 b at) ≡ false → p (holding r (read_entry b at)) ≡ false) → in_use (get_or b at 0) && q (holding_at 0 b at) ≡ false
+      → has r p (read_slot b at) ≡ false
+  has-unlikely f h = not-both (in_use (get_or b at 0)) (q (holding_at 0 b at)) (has-out r p b at) (λ i e. has_in r p b at i ∙ f e) h
 
 -- AN ENTRY that is read
-module _ (b : List ℕ) (at : ℕ) (e : Entry) (h : e ≡ entry_at b at) where
-  -- it is an entry's kind, or not
-  pub state-in : (s : State) → e.state ≡ s → in_use (get_or b at 0) ≡ has_entry s
-  unfolding entry_at
-  state-in s g = kind-in (get_or b at 0) e.state s (ap (λ (x : Entry). x.state) h) g
-
+module _ (b : List ℕ) (at : ℕ) where
   -- it is an established entry's, or not
-  pub state-established : (s : State) → e.state ≡ s → (read_entry b at).established ≡ is_established s
-  unfolding entry_at read_entry
-  state-established s g = sym (established-is (get_or b at 0)) ∙ ap is_established (sym (ap (λ (x : Entry). x.state) h) ∙ g)
+  pub state-established : {k : ℕ} {x : State} → k ≡ get_or b at 0 → x ≡ state_of k → (s : State) → x ≡ s → (read_entry b at).established ≡ is_established s
+  unfolding read_entry
+  state-established k x s g = sym (established-is (get_or b at 0)) ∙ ap is_established (sym (x ∙ ap state_of k) ∙ g)
 
-  -- its span is the slot's entry's
-  pub span-read : (r number lease : ℕ) → in_span e.lease (age_at r e.stamp) lease ≡ right_lease (sent number lease) (holding r (read_entry b at))
-  unfolding entry_at read_entry
-  span-read r number lease = rw h
+  -- its span at its age is the slot's entry's
+  pub span-read : (r number sent_lease : ℕ) {lease stamp age : ℕ} {v : Bool} → lease ≡ big_endian b (at + 27) 4 → stamp ≡ big_endian b (at + 31) 4 → age ≡ age_at r stamp
+      → v ≡ in_span lease age sent_lease → right_lease (sent number sent_lease) (holding r (read_entry b at)) ≡ v
+  unfolding read_entry
+  span-read r number sent_lease l s a v = sym (rw (a, s, l) at v)
+
+-- the code's test of a free slot
+pub free-is : (b : List ℕ) (i : ℕ) {u v : Bool} → u ≡ in_use (get_or b (320 * i) 0) → v ≡ not u → v ≡ is_free (read_slot b (320 * i))
+free-is b i {u} {v} h e = e ∙ ap not h ∙ go (in_use (get_or b (320 * i) 0)) refl
+  where
+    go : (w : Bool) → in_use (get_or b (320 * i) 0) ≡ w → not (in_use (get_or b (320 * i) 0)) ≡ is_free (read_slot b (320 * i))
+    go true g = ap not g ∙ sym (ap is_free (read_held b (320 * i) g))
+    go false g = ap not g ∙ sym (ap is_free (read-free b (320 * i) g))
 
 -- n SLOTS, the first that passes a test
 
+-- none of the slots below i passes
+pub none_below : (b : List ℕ) (q : Slot → Bool) (i : ℕ) → ((k : ℕ) → k < i → false ≡ q (read_slot b (320 * k))) → none_to b q i
+unfolding none_to
+none_below b q zero h = rw (up_to-none (λ j. read_slot b (320 * j))) (every-nil (λ s. not (q s)))
+none_below b q (suc i) h =
+    let here : false ≡ q (read_slot b (320 * i)) = h i (omega arith) in
+    rw (← add-one, every-next i (λ j. read_slot b (320 * j)) (λ s. not (q s)), none_below b q i (λ k l. h k (omega arith)), ← here)
+
 module _ (b : List ℕ) (n : ℕ) (q : Slot → Bool) where
-  pub index-here : (i : ℕ) → i < n → none_to b q i → q (read_slot b (320 * i)) ≡ true → index_of q (slots_to b n) ≡ i
+  -- the first slot that passes, by what the tests of the slots gave
+  abbrev pub IsFirst : ℕ → Type 0
+  IsFirst i = (true ≡ q (read_slot b (320 * i))) × ((k : ℕ) → k < i → false ≡ q (read_slot b (320 * k)))
+
+  index-here : (i : ℕ) → i < n → IsFirst i → index_of q (slots_to b n) ≡ i
   unfolding none_to
-  index-here i l e t = index-up_to q n i (λ j. read_slot b (320 * j)) e t l
+  index-here i l h = index-up_to q n i (λ j. read_slot b (320 * j)) (none_below b q i h.1) (sym h.0) l
 
-  pub index-none-here : none_to b q n → index_of q (slots_to b n) ≡ n
+  index-none-here : ((k : ℕ) → k < n → false ≡ q (read_slot b (320 * k))) → index_of q (slots_to b n) ≡ n
   unfolding none_to
-  index-none-here e = index-up_to-none q n (λ j. read_slot b (320 * j)) e
+  index-none-here h = index-up_to-none q n (λ j. read_slot b (320 * j)) (none_below b q n h)
 
-  -- a finder's two ways out
-  pub slot-found : (i : ℕ) → i < n → none_to b q i → q (read_slot b (320 * i)) ≡ true → (e : Entry) → e ≡ entry_at b (320 * i)
-      → slot i e ≡ found_at b n (index_of q (slots_to b n))
-  slot-found i l f g e h = rw (index-here i l f g, lt-ltb i n l, h)
+  -- as the library's `find` over the range says it
+  pub within-first : (r : Option ℕ) → MatchOption r ((k : ℕ) → 0 ≤ k → k < n → false ≡ q (read_slot b (320 * k)))
+      (λ i. (0 ≤ i) × (i < n) × (true ≡ q (read_slot b (320 * i))) × ((k : ℕ) → 0 ≤ k → k < i → false ≡ q (read_slot b (320 * k))))
+      → r ≡ cond (ltb (index_of q (slots_to b n)) n) (Some (index_of q (slots_to b n))) None
+  within-first None h = rw (index-none-here (λ k l. h k (omega arith) l), le-ltb n n (omega arith))
+  within-first (Some i) h = rw (index-here i h.1 (h.2, λ k l. h.3 k (omega arith) l), lt-ltb i n h.1)
 
-  pub nothing-found : none_to b q n → nothing ≡ found_at b n (index_of q (slots_to b n))
-  nothing-found f = rw (index-none-here f, le-ltb n n (omega arith))
+  pub found-first : {No : ℕ → Type 0} {Yes : Found → Type 0} → (r : Option Found) → MatchOption r ((k : ℕ) → k < n → No k)
+      (λ f. (f.slot < n) × (f.entry ≡ entry_at b (320 * f.slot)) × Yes f × ((k : ℕ) → k < f.slot → No k))
+      → ((k : ℕ) → No k → false ≡ q (read_slot b (320 * k))) → ((f : Found) → Yes f → true ≡ q (read_slot b (320 * f.slot)))
+      → r ≡ found_at b n (index_of q (slots_to b n))
+  found-first None h none some = rw (index-none-here (λ k l. none k (h k l)), le-ltb n n (omega arith))
+  found-first (Some f) h none some = rw (index-here f.slot h.0 (some f h.2, λ k l. none k (h.3 k l)), lt-ltb f.slot n h.0, ← h.1)
 
 -- WHAT WAS FOUND, told by what a finder gave
 
-abbrev is_slot : Found → Bool
-is_slot (slot i e) = true
-is_slot nothing = false
-
-abbrev index_in : Found → ℕ
-index_in (slot i e) = i
-index_in nothing = 0
-
-abbrev entry_in : Entry → Found → Entry
-entry_in d (slot i e) = e
-entry_in d nothing = d
-
-pub found-is : (b : List ℕ) (n i j : ℕ) (e : Entry) → found_at b n i ≡ slot j e → (j ≡ i) × (j < n) × (e ≡ entry_at b (320 * j))
-found-is b n i j e = go (ltb i n) refl
+pub found-is : (b : List ℕ) (n i : ℕ) (f : Found) → found_at b n i ≡ Some f → (f.slot ≡ i) × (f.slot < n) × (f.entry ≡ entry_at b (320 * f.slot))
+found-is b n i f = go (ltb i n) refl
   where
-    go : (v : Bool) → ltb i n ≡ v → cond v (slot i (entry_at b (320 * i))) nothing ≡ slot j e → (j ≡ i) × (j < n) × (e ≡ entry_at b (320 * j))
-    go true h g =
-        let k : j ≡ i = sym (ap index_in g) in
-        (k, rw k (ltb-true i n h), rw k (sym (ap (entry_in e) g)))
-    go false h g = absurd (true≢false (sym (ap is_slot g)))
+    go : (v : Bool) → ltb i n ≡ v → cond {A = Option Found} v (Some (record { slot = i; entry = entry_at b (320 * i) })) None ≡ Some f → (f.slot ≡ i) × (f.slot < n) × (f.entry ≡ entry_at b (320 * f.slot))
+    go true h g = let l : i < n = ltb-true i n h in let e : f ≡ record { slot = i; entry = entry_at b (320 * i) } = cc in rw e (refl, l, refl)
+    go false h g = cc
 
-pub nothing_is : (b : List ℕ) (n i : ℕ) → found_at b n i ≡ nothing → n ≤ i
+pub nothing_is : (b : List ℕ) (n i : ℕ) → found_at b n i ≡ None → n ≤ i
 nothing_is b n i = go (ltb i n) refl
   where
-    go : (v : Bool) → ltb i n ≡ v → cond v (slot i (entry_at b (320 * i))) nothing ≡ nothing → n ≤ i
-    go true h g = absurd (true≢false (ap is_slot g))
+    go : (v : Bool) → ltb i n ≡ v → cond {A = Option Found} v (Some (record { slot = i; entry = entry_at b (320 * i) })) None ≡ None → n ≤ i
+    go true h g = cc
     go false h g = ltb-false i n h
-
--- none of the slots below i, and so none below i + 1
-pub none_yet : (b : List ℕ) (q : Slot → Bool) → none_to b q 0
-unfolding none_to
-none_yet b q = rw (up_to-none (λ j. read_slot b (320 * j))) (every-nil (λ s. not (q s)))
-
-pub none-still : (b : List ℕ) (q : Slot → Bool) (i : ℕ) → q (read_slot b (320 * i)) ≡ false → none_to b q i
-    → none_to b q (i + 1)
-unfolding none_to
-none-still b q i f e = rw (every-next i (λ j. read_slot b (320 * j)) (λ s. not (q s)), e, f)
 
 -- A NUMBER IN USE
 
@@ -127,40 +136,56 @@ count_held : (b : List ℕ) (n : ℕ) (p : Holding → Bool) → count (held_to 
 unfolding held_to
 count_held b n p = count_entries 0 (slots_to b n) p
 
-pub used-hit : (b : List ℕ) (n : ℕ) (p : Holding → Bool) (i : ℕ) → i < n → slot_has 0 b p i ≡ true → leb 1 (count (held_to 0 b n) p) ≡ true
-used-hit b n p i l t =
-    let f : ℕ → Slot = λ j. read_slot b (320 * j) in
-    let h : 1 ≤ count (slots_to b n) (has 0 p) = count_at (slots_to b n) i free (has 0 p) (rw (length-up_to n f) l) (ap (has 0 p) (get_or-up_to n f i free l) ∙ t) in
-    rw (count_held b n p) (le-leb _ _ h)
+-- as the library's `any` over the range says it
+module _ (b : List ℕ) (n : ℕ) (p : Holding → Bool) where
+  used : Bool
+  used = leb 1 (count (held_to 0 b n) p)
 
-pub used-none : (b : List ℕ) (n : ℕ) (p : Holding → Bool) → none_to b (has 0 p) n → leb 1 (count (held_to 0 b n) p) ≡ false
-unfolding none_to
-used-none b n p e = rw (count_held b n p, every-not (has 0 p) (slots_to b n) e)
+  used-hit : (i : ℕ) → i < n → true ≡ has 0 p (read_slot b (320 * i)) → true ≡ used
+  unfolding used
+  used-hit i l t =
+      let f : ℕ → Slot = λ j. read_slot b (320 * j) in
+      let h : 1 ≤ count (slots_to b n) (has 0 p) = count_at (slots_to b n) i free (has 0 p) (rw (length-up_to n f) l) (ap (has 0 p) (get_or-up_to n f i free l) ∙ sym t) in
+      rw (count_held b n p) (sym (le-leb _ _ h))
 
--- SERV-FULL, from what the code has counted
+  used-none : ((i : ℕ) → i < n → false ≡ has 0 p (read_slot b (320 * i))) → false ≡ used
+  unfolding used none_to
+  used-none h = rw (count_held b n p, every-not (has 0 p) (slots_to b n) (none_below b (has 0 p) n h))
 
-module _ (lines slots : List ℕ) (n a : ℕ) {m h l : ℕ} (ms : m ≡ listed lines 16) (hs : h ≡ count (held_to 0 slots n) (held_by a)) (ls : l ≡ limit_of (lines_to lines m) a) where
+  pub any-used : (r : Bool) → MatchBool r ((k : ℕ) × (k < length (range_with_len 0 n)) × HoldsAt (λ i. true ≡ has 0 p (read_slot b (320 * i))) (range_with_len 0 n) k)
+      (AllWithin (λ i. false ≡ has 0 p (read_slot b (320 * i))) (range_with_len 0 n) 0 (length (range_with_len 0 n))) → r ≡ leb 1 (count (held_to 0 b n) p)
+  unfolding used
+  any-used true h =
+      let l : h.0 < n = rw (length-range_with_len 0 n) at h.1 in
+      used-hit h.0 l (rw (get_or-range_with_len 0 n h.0 0 l, zero-add) at (h.2 0))
+  any-used false h =
+      used-none (λ i l. rw (get_or-range_with_len 0 n i 0 l, zero-add) at (h i 0 (omega arith) (rw (length-range_with_len 0 n) l)))
+
+-- SERV-FULL, from what the code has counted: by the listed lines, and how many the address holds and may hold
+
+module _ (lines : List ℕ) (slots : Slots) (a : ℕ) (ls : Lines) (listed_in : (ls.bytes.now ≡ lines) × (ls.count ≡ listed lines 16) × (ls.count ≤ 16))
+    {h l : ℕ} (held : h ≡ held_in slots (held_by a)) (limit : l ≡ limit_of (lines_of ls) a) where
   room : Bool
-  room = leb (share_of (lines_to lines m) a) h && leb (n - count (held_to 0 slots n) any) (reserve (lines_to lines m) (count (held_to 0 slots n)))
+  room = leb (share_of (lines_of ls) a) h && leb (slots.n - held_in slots any) (reserve (lines_of ls) (held_in slots))
 
   abbrev full_now : Bool
-  full_now = full n (lines_to lines (listed lines 16)) (count (held_to 0 slots n)) a
+  full_now = full slots.n (lines_to lines (listed lines 16)) (held_in slots) a
 
   full_is : full_now ≡ leb l h || room
   unfolding full room
-  full_is = rw (← ms, ← hs, ← ls)
+  full_is = rw (← listed_in.1, ← listed_in.0, ← held, ← limit)
 
   pub full-limit : l ≤ h → full_now ≡ true
   full-limit t = full_is ∙ rw (le-leb l h t)
 
-  module _ (t : h < l) {s : ℕ} (ss : s ≡ share_of (lines_to lines m) a) where
+  module _ (t : h < l) {s : ℕ} (share : s ≡ share_of (lines_of ls) a) where
     pub full-share : h < s → full_now ≡ false
     unfolding room
-    full-share u = full_is ∙ rw (lt-leb l h t, ← ss, lt-leb s h u)
+    full-share u = full_is ∙ rw (lt-leb l h t, ← share, lt-leb s h u)
 
-    pub full-room : s ≤ h → {e k : ℕ} → e ≡ count (held_to 0 slots n) any → k ≡ reserve (lines_to lines m) (count (held_to 0 slots n)) → full_now ≡ leb (n - e) k
+    pub full-room : s ≤ h → {e k : ℕ} → e ≡ held_in slots any → k ≡ reserve (lines_of ls) (held_in slots) → full_now ≡ leb (slots.n - e) k
     unfolding room
-    full-room u es ks = full_is ∙ rw (lt-leb l h t, ← ss, le-leb s h u, ← es, ← ks)
+    full-room u es ks = full_is ∙ rw (lt-leb l h t, ← share, le-leb s h u, ← es, ← ks)
 
 -- THE NUMBER SEARCH
 

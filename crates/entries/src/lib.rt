@@ -1,25 +1,29 @@
-// What is read of a table's slots, where they lie: `slots` is the part that starts with the first. A slot is found by its first index, as the model finds it.
+// What is read of a table's slots, where they lie. A slot is found by its first index, as the model finds it.
 #![tactic(auto)]
 
-ghost use Rattle.std.specs.Prelude.{◌≡◌, ◌+◌, ◌*◌, ◌≤◌, ◌||◌, length, ◌==◌, nat_le};
-ghost use Rattle.model.specs.Lists.{count, index_of};
-ghost use Rattle.model.specs.Clock.{age_at, run_out};
-ghost use Rattle.model.specs.Table.{read_entry, read_slot, listed};
-ghost use Rattle.model.specs.Rules.{numbered, asks, full, fresh_number};
+ghost use Rattle.std.specs.Prelude.{ℕ, true, false, not, MatchOption, ◌≡◌, ◌<◌, ◌+◌, ◌*◌, ◌≤◌, ◌||◌, length, ◌==◌, nat_le};
+ghost use Rattle.model.specs.Table.{read_slot, listed};
+ghost use Rattle.model.specs.Rules.{numbered, full, fresh_number};
 ghost use Rattle.model.specs.Serve.{is_free, has, slot_run_out, in_span, answers, refreshes};
-ghost use Rattle.wire.specs.Records.{question_of};
-ghost use Rattle.entries.specs.Reads.{address_of, sender_of, entry_at, found_at, same_fields, slot_has, sent};
-ghost use Rattle.layout.specs.Shape.{slots_to, lines_to};
-ghost use Rattle.layout.specs.Held.{holding_at, held_to};
+ghost use Rattle.layout.specs.Shape.{lines_to};
+ghost use Rattle.layout.specs.Held.{holding_at};
+ghost use Rattle.record.specs.Address.{address_of};
+ghost use Rattle.holdings.specs.Slots.{held_in};
+ghost use Rattle.entries.specs.Asked.{question_asked, asked_by};
+ghost use Rattle.entries.specs.Reads.{sender_of, entry_at, slot_has, found_in, first_in, sent};
 
-use record::State;
-use wire::{LlqNumber, Question};
+mod asked;
 
-// Who sent the datagram: an address in two halves, and a port.
-#[derive(Clone, Copy)]
+pub use asked::Asked;
+use holdings::Slots;
+use record::{Address, Slot, State};
+use roster::Lines;
+use wire::LlqNumber;
+
+// Who sent the datagram: an address and a port.
+#[derive(Clone, Copy, PartialEq, Eq)]
 pub struct Sender {
-    pub high: u64,
-    pub low: u64,
+    pub address: Address,
     pub port: u16,
 }
 
@@ -27,9 +31,7 @@ pub struct Sender {
 #[derive(Clone, Copy)]
 pub struct Entry {
     pub state: State,
-    pub high: u64,
-    pub low: u64,
-    pub port: u16,
+    pub sender: Sender,
     pub number: LlqNumber,
     pub lease: u32,
     pub stamp: u32,
@@ -38,312 +40,171 @@ pub struct Entry {
     pub len: u8,
 }
 
-// A slot that was found, with its entry.
+// A slot that was found, and its entry.
 #[derive(Clone, Copy)]
-pub enum Found {
-    Slot(usize, Entry),
-    Nothing,
+pub struct Found {
+    pub slot: usize,
+    pub entry: Entry,
 }
 
-// Slot i as it is stored.
-fn entry_at(slots: &[u8], i: usize) -> Entry
-    requires { 320 * (i + 1) ≤ length slots.now }
-    ensures { result ≡ entry_at slots.now (320 * i) }
+// A slot as it is stored.
+fn entry_at(slot: Slot) -> Entry
+    ensures { result ≡ entry_at slot.entry.bytes.now slot.entry.at }
 {
-    let a = layout::SLOT * i;
     Entry {
-        state: record::state_of(slots[a]),
-        high: octets::get64(slots, a + layout::ADDRESS_AT),
-        low: octets::get64(slots, a + layout::LOW_AT),
-        port: octets::get16(slots, a + layout::PORT_AT),
-        number: LlqNumber(octets::get64(slots, a + layout::NUMBER_AT)),
-        lease: octets::get32(slots, a + layout::LEASE_AT),
-        stamp: octets::get32(slots, a + layout::STAMP_AT),
-        qtype: octets::get16(slots, a + layout::TYPE_AT),
-        qclass: octets::get16(slots, a + layout::CLASS_AT),
-        len: slots[a + layout::NAME_LENGTH_AT],
+        state: State::from(slot.kind()),
+        sender: Sender {
+            address: slot.address(),
+            port: slot.port(),
+        },
+        number: slot.number(),
+        lease: slot.lease(),
+        stamp: slot.stamp(),
+        qtype: slot.qtype(),
+        qclass: slot.qclass(),
+        len: slot.name_length(),
     }
 }
 
-// The entry is of this sender and asks for this type and class.
-fn same_fields(e: Entry, s: Sender, q: Question) -> bool
-    ensures { result ≡ same_fields e s q }
+// The slot's entry is of this sender and asks this question. Its name is compared where it is stored.
+fn entry_asks(slot: Slot, asked: Asked) -> bool
+    ensures { result ≡ asked_by asked.entry (holding_at 0 slot.entry.bytes.now slot.entry.at) }
 {
-    if e.low != s.low {
+    let e = entry_at(slot);
+    let q = asked.question;
+    if (e.sender, e.qtype, e.qclass) != (asked.sender, q.qtype, q.qclass) {
         return false;
     }
-    if e.high != s.high {
-        return false;
-    }
-    if e.port != s.port {
-        return false;
-    }
-    if e.qtype != q.qtype {
-        return false;
-    }
-    e.qclass == q.qclass
+    slot.has_name(asked.datagram, usize::from(q.start), usize::from(q.len))
 }
 
-// The entry e, which is the one at a, is of this sender and this question. Its name is compared where it is stored.
-fn entry_asks(t: &[u8], a: usize, e: Entry, s: Sender, d: &[u8], q: Question) -> bool
-    requires { (a + 320 ≤ length t.now) × (e ≡ entry_at t.now a) × (q.start + q.len ≤ length d.now) }
-    ensures { result ≡ asks (sender_of s).address s.port (question_of d.now q) (holding_at 0 t.now a) }
+// The slot has an entry of this sender and question: a setup finds it, pending or established. The address, or the number, is looked at first, in any slot: the entry is read only where it agrees. So for the two below.
+fn slot_asks(slot: Slot, asked: Asked) -> bool
+    ensures { result ≡ slot_has 0 (asked_by asked.entry) slot.entry }
 {
-    if same_fields(e, s, q) {
-        let compared = names::compare(
-            t,
-            a + layout::NAME_AT,
-            e.len as usize,
-            d,
-            q.start as usize,
-            q.len as usize,
-        );
-        return compared.same;
-    }
-    false
-}
-
-// Slot i, whose entry is e, has an entry of this sender and this question: a setup finds it, pending or established.
-fn slot_asks(slots: &[u8], i: usize, e: Entry, s: Sender, d: &[u8], q: Question) -> bool
-    requires { (320 * (i + 1) ≤ length slots.now) × (e ≡ entry_at slots.now (320 * i)) × (q.start + q.len ≤ length d.now) }
-    ensures { result ≡ slot_has 0 slots.now (asks (sender_of s).address s.port (question_of d.now q)) i }
-{
-    let a = layout::SLOT * i;
-    let state = e.state;
-    match state {
-        State::Free => false,
-        State::Pending => entry_asks(slots, a, e, s, d, q),
-        State::Established => entry_asks(slots, a, e, s, d, q),
-    }
+    slot.has_holder(asked.sender.address) && entry_asks(slot, asked)
 }
 
 // A response's lease is in the span: no less than what remains of the granted lease at this age, and no more than it.
 fn in_span(granted: u32, age: u32, sent: u32) -> bool
     ensures { result ≡ in_span granted age sent }
 {
-    if sent > granted {
-        return false;
-    }
-    granted - sent <= age
+    sent <= granted && granted - sent <= age
 }
 
-// Slot i has an entry of this number, sender and question in whose span the lease sent is: a response finds it, pending or established.
-fn slot_answers(
-    slots: &[u8],
-    i: usize,
-    running: u32,
-    e: Entry,
-    s: Sender,
-    d: &[u8],
-    q: Question,
-    number: LlqNumber,
-    lease: u32,
-) -> bool
-    requires { (320 * (i + 1) ≤ length slots.now) × (e ≡ entry_at slots.now (320 * i)) × (q.start + q.len ≤ length d.now) }
-    ensures { result ≡ slot_has running slots.now (answers (sender_of s) (question_of d.now q) (sent number.0 lease)) i }
+// The slot has an entry of this number, sender and question in whose span the lease sent is: a response finds it, pending or established.
+fn slot_answers(slot: Slot, asked: Asked, running: u32, number: LlqNumber, lease: u32) -> bool
+    ensures { result ≡ slot_has running (answers (sender_of asked.entry.sender) (question_asked asked.entry) (sent number.0 lease)) slot.entry }
 {
-    let own = e.number;
-    if own.0 != number.0 {
+    if !slot.has_number(number) {
         return false;
     }
-    let age = clock::age(running, e.stamp);
-    if in_span(e.lease, age, lease) {
-        return slot_asks(slots, i, e, s, d, q);
-    }
-    false
+    let age = clock::age(running, slot.stamp());
+    in_span(slot.lease(), age, lease) && entry_asks(slot, asked)
 }
 
-// Slot i has an established entry of this number, sender and question: a refresh finds it.
-fn slot_refreshes(
-    slots: &[u8],
-    i: usize,
-    e: Entry,
-    s: Sender,
-    d: &[u8],
-    q: Question,
-    number: LlqNumber,
-) -> bool
-    requires { (320 * (i + 1) ≤ length slots.now) × (e ≡ entry_at slots.now (320 * i)) × (q.start + q.len ≤ length d.now) }
-    ensures { result ≡ slot_has 0 slots.now (refreshes (sender_of s) (question_of d.now q) (sent number.0 0)) i }
+// The slot has an established entry of this number, sender and question: a refresh finds it.
+fn slot_refreshes(slot: Slot, asked: Asked, number: LlqNumber) -> bool
+    ensures { result ≡ slot_has 0 (refreshes (sender_of asked.entry.sender) (question_asked asked.entry) (sent number.0 0)) slot.entry }
 {
-    let own = e.number;
-    if own.0 != number.0 {
+    if !slot.has_number(number) {
         return false;
     }
-    let state = e.state;
-    match state {
-        State::Free => false,
-        State::Pending => false,
-        State::Established => slot_asks(slots, i, e, s, d, q),
+    match State::from(slot.kind()) {
+        State::Free | State::Pending => false,
+        State::Established => entry_asks(slot, asked),
     }
 }
 
-// The first slot that a setup finds, and its entry. So for the two below. The address, or the number, is looked at first, in any slot: the entry is read, and its state asked for, only where it agrees.
-pub fn find_asked(slots: &[u8], n: usize, s: Sender, d: &[u8], q: Question) -> Found
-    requires { (320 * n ≤ length slots.now) × (q.start + q.len ≤ length d.now) }
-    ensures { result ≡ found_at slots.now n (index_of (has 0 (asks (sender_of s).address s.port (question_of d.now q))) (slots_to slots.now n)) }
+// The first of the slots that passes, with its entry.
+fn first_that<F: Fn(usize) -> bool>(slots: Slots, passes: F) -> Option<Found>
+    requires { (i : ℕ) → i < slots.n → F.pre passes i }
+    ensures { MatchOption result ((i : ℕ) → i < slots.entry.n → F.post passes i false) (λ found. (found.slot < slots.entry.n) × (found.entry ≡ entry_at slots.entry.bytes.now (320 * found.slot)) × F.post passes found.slot true × ((i : ℕ) → i < found.slot → F.post passes i false)) }
 {
-    let mut i = 0;
-    while i < n {
-        let a = layout::SLOT * i;
-        if record::has_address(slots, a + layout::ADDRESS_AT, s.high, s.low) {
-            let e = entry_at(slots, i);
-            if slot_asks(slots, i, e, s, d, q) {
-                return Found::Slot(i, e);
-            }
+    for slot in 0..slots.n {
+        if passes(slot) {
+            let entry = entry_at(slots.slot(slot));
+            return Some(Found { slot, entry });
         }
-        i += 1;
     }
-    Found::Nothing
+    None
+}
+
+// The first slot that a setup finds, and its entry. So for the two below.
+pub fn find_asked(slots: Slots, asked: Asked) -> Option<Found>
+    ensures { result ≡ found_in slots.entry (has 0 (asked_by asked.entry)) }
+{
+    first_that(slots, |i| slot_asks(slots.slot(i), asked))
 }
 
 pub fn find_answered(
-    slots: &[u8],
-    n: usize,
+    slots: Slots,
+    asked: Asked,
     running: u32,
-    s: Sender,
-    d: &[u8],
-    q: Question,
     number: LlqNumber,
     lease: u32,
-) -> Found
-    requires { (320 * n ≤ length slots.now) × (q.start + q.len ≤ length d.now) }
-    ensures { result ≡ found_at slots.now n (index_of (has running (answers (sender_of s) (question_of d.now q) (sent number.0 lease))) (slots_to slots.now n)) }
+) -> Option<Found>
+    ensures { result ≡ found_in slots.entry (has running (answers (sender_of asked.entry.sender) (question_asked asked.entry) (sent number.0 lease))) }
 {
-    let mut i = 0;
-    while i < n {
-        let own = record::number_at(slots, layout::SLOT * i);
-        if own.0 == number.0 {
-            let e = entry_at(slots, i);
-            if slot_answers(slots, i, running, e, s, d, q, number, lease) {
-                return Found::Slot(i, e);
-            }
-        }
-        i += 1;
-    }
-    Found::Nothing
-}
-
-pub fn find_refreshed(
-    slots: &[u8],
-    n: usize,
-    s: Sender,
-    d: &[u8],
-    q: Question,
-    number: LlqNumber,
-) -> Found
-    requires { (320 * n ≤ length slots.now) × (q.start + q.len ≤ length d.now) }
-    ensures { result ≡ found_at slots.now n (index_of (has 0 (refreshes (sender_of s) (question_of d.now q) (sent number.0 0))) (slots_to slots.now n)) }
-{
-    let mut i = 0;
-    while i < n {
-        let own = record::number_at(slots, layout::SLOT * i);
-        if own.0 == number.0 {
-            let e = entry_at(slots, i);
-            if slot_refreshes(slots, i, e, s, d, q, number) {
-                return Found::Slot(i, e);
-            }
-        }
-        i += 1;
-    }
-    Found::Nothing
-}
-
-// The lowest free slot.
-pub fn find_free(slots: &[u8], n: usize) -> usize
-    requires { 320 * n ≤ length slots.now }
-    ensures { result ≡ index_of is_free (slots_to slots.now n) }
-{
-    let mut i = 0;
-    while i < n {
-        if !record::in_use(slots[layout::SLOT * i]) {
-            return i;
-        }
-        i += 1;
-    }
-    n
-}
-
-// The entry at a has run out.
-fn entry_run_out(t: &[u8], a: usize, running: u32) -> bool
-    requires { a + 320 ≤ length t.now }
-    ensures { result ≡ run_out (age_at running (read_entry t.now a).stamp) (read_entry t.now a).lease }
-{
-    clock::run_out(
-        running,
-        octets::get32(t, a + layout::STAMP_AT),
-        octets::get32(t, a + layout::LEASE_AT),
+    first_that(
+        slots,
+        |i| slot_answers(slots.slot(i), asked, running, number, lease),
     )
 }
 
-// Slot i has an entry that has run out: pending entries wait out their lease too.
-pub fn run_out(slots: &[u8], i: usize, running: u32) -> bool
-    requires { 320 * (i + 1) ≤ length slots.now }
-    ensures { result ≡ slot_run_out running (read_slot slots.now (320 * i)) }
+pub fn find_refreshed(slots: Slots, asked: Asked, number: LlqNumber) -> Option<Found>
+    ensures { result ≡ found_in slots.entry (has 0 (refreshes (sender_of asked.entry.sender) (question_asked asked.entry) (sent number.0 0))) }
 {
-    let a = layout::SLOT * i;
-    match record::state_of(slots[a]) {
-        State::Free => false,
-        State::Pending => entry_run_out(slots, a, running),
-        State::Established => entry_run_out(slots, a, running),
-    }
+    first_that(slots, |i| slot_refreshes(slots.slot(i), asked, number))
+}
+
+// The lowest free slot.
+pub fn find_free(slots: Slots) -> Option<usize>
+    ensures { result ≡ first_in slots.entry is_free }
+{
+    (0..slots.n).find(|&i| !slots.slot(i).in_use())
+}
+
+// The slot has an entry that has run out: pending entries wait out their lease too.
+pub fn run_out(slot: Slot, running: u32) -> bool
+    ensures { result ≡ slot_run_out running (read_slot slot.entry.bytes.now slot.entry.at) }
+{
+    slot.in_use() && clock::run_out(running, slot.stamp(), slot.lease())
 }
 
 // SERV-FULL: the address is at its limit, or has reached its share and the free slots are no more than the reserve.
-pub fn is_full(lines: &[u8], slots: &[u8], n: usize, high: u64, low: u64) -> bool
-    requires { (304 ≤ length lines.now) × (320 * n ≤ length slots.now) }
-    ensures { result ≡ full n (lines_to lines.now (listed lines.now 16)) (count (held_to 0 slots.now n)) (address_of high low) }
+pub fn is_full(lines: &[u8], slots: Slots, address: Address) -> bool
+    requires { 304 ≤ length lines.now }
+    ensures { result ≡ full slots.entry.n (lines_to lines.now (listed lines.now 16)) (held_in slots.entry) (address_of address) }
 {
-    let m = roster::listed_lines(lines);
-    let h = holdings::held_by(slots, n, high, low);
-    if roster::limit_of(lines, m, high, low) <= h {
+    let listed = Lines::listed(lines);
+    let held = slots.held_by(address);
+    if listed.limit_of(address) <= held {
         return true;
     }
-    if h < roster::share_of(lines, m, high, low) {
+    if held < listed.share_of(address) {
         return false;
     }
-    n - holdings::held(slots, n) <= holdings::reserve_of(lines, slots, n, m)
+    slots.n - slots.held() <= slots.reserve(listed)
 }
 
-// An entry has the number.
-fn number_used(slots: &[u8], n: usize, x: LlqNumber) -> bool
-    requires { 320 * n ≤ length slots.now }
-    ensures { result ≡ nat_le 1 (count (held_to 0 slots.now n) (numbered x.0)) }
+// A number that can be granted: not 0, and not that of an entry.
+fn is_fresh(slots: Slots, x: LlqNumber) -> bool
+    ensures { result ≡ not (x.0 == 0 || nat_le 1 (held_in slots.entry (numbered x.0))) }
 {
-    let mut i = 0;
-    while i < n {
-        if record::has_number(slots, layout::SLOT * i, x) {
-            return true;
-        }
-        i += 1;
-    }
-    false
-}
-
-// A number that cannot be granted: 0, or one in the table.
-fn not_granted(slots: &[u8], n: usize, x: LlqNumber) -> bool
-    requires { 320 * n ≤ length slots.now }
-    ensures { result ≡ (x.0 == 0 || nat_le 1 (count (held_to 0 slots.now n) (numbered x.0))) }
-{
-    if x.0 == 0 {
-        return true;
-    }
-    number_used(slots, n, x)
+    x.0 != 0 && !(0..slots.n).any(|i| slots.slot(i).has_number(x))
 }
 
 // The granted number: the first of r, r + 1, r + 2 and so on, modulo 2^64, that can be.
-pub fn fresh_number(slots: &[u8], n: usize, r: u64) -> LlqNumber
-    requires { 320 * n ≤ length slots.now }
-    ensures { result.0 ≡ fresh_number (n + 2) (count (held_to 0 slots.now n)) r }
+pub fn fresh_number(slots: Slots, r: u64) -> LlqNumber
+    ensures { result.0 ≡ fresh_number (slots.entry.n + 2) (held_in slots.entry) r }
 {
     let mut x = r;
-    let mut k = n + 2;
-    while 0 < k {
-        if !not_granted(slots, n, LlqNumber(x)) {
+    for _ in 0..slots.n + 2 {
+        if is_fresh(slots, LlqNumber(x)) {
             return LlqNumber(x);
         }
-        x = std::num::wrapping_add_u64(x, 1);
-        k -= 1;
+        x = x.wrapping_add(1);
     }
     LlqNumber(0)
 }

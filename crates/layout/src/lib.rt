@@ -7,20 +7,17 @@ ghost use Rattle.model.specs.Calls.{table_length};
 ghost use Rattle.layout.specs.Weeks.{weeks_of};
 ghost use Rattle.layout.specs.Places.{LayoutFor};
 
-// Kinds of record: of the clock, with weeks of ten bits and of thirteen, of lines and of slots.
-const TEN_CLOCK_KIND: u8 = 1;
-
-const THIRTEEN_CLOCK_KIND: u8 = 9;
-
-pub const UNUSED_KIND: u8 = 2;
-
-pub const LISTED_KIND: u8 = 3;
-
-pub const FREE_KIND: u8 = 4;
-
-pub const PENDING_KIND: u8 = 5;
-
-pub const ESTABLISHED_KIND: u8 = 6;
+// Kinds of record, by the byte that each starts with: of the clock, with weeks of ten bits and of thirteen, of lines and of slots.
+#[derive(Clone, Copy)]
+pub enum Kind {
+    TenClock = 1,
+    Unused = 2,
+    Listed = 3,
+    Free = 4,
+    Pending = 5,
+    Established = 6,
+    ThirteenClock = 9,
+}
 
 // The clock's place, behind its kind, and the bytes of the running count, behind the place and before the lines.
 pub const PLACE_AT: usize = 1;
@@ -97,8 +94,8 @@ pub fn clock_kind(weeks: Weeks) -> u8
     ensures { result ≡ kind_with (weeks_of weeks) }
 {
     match weeks {
-        Weeks::Ten => TEN_CLOCK_KIND,
-        Weeks::Thirteen => THIRTEEN_CLOCK_KIND,
+        Weeks::Ten => Kind::TenClock as u8,
+        Weeks::Thirteen => Kind::ThirteenClock as u8,
     }
 }
 

@@ -1,7 +1,8 @@
 -- What the writers leave is the answer, and a call that answers meets the model. Assumes nothing.
+use Rattle.std.specs.Prelude.{Ok}
 use Prim.Native.Nat.{ℕ, ◌+◌, ◌*◌, ◌≤◌, ◌<◌}
 use native.Mathlib.Omega.{arith}
-use mathlib.Core.Path.{◌≡◌, refl, sym, ap, ◌∙◌}
+use mathlib.Core.Path.{◌≡◌, refl, sym, ap, ◌∙◌, subst}
 use mathlib.Core.Bool.{Bool, true, false, not, cond}
 use mathlib.Core.List.{List, [], ◌∷◌, ◌++◌, append-nil}
 use lib.ListN.{length, drop}
@@ -19,13 +20,17 @@ use Rattle.model.specs.Calls.{MakeCall, ServeCall, freed_by, fresh_table}
 use Rattle.model.specs.Meets.{ServeMeets}
 use Rattle.model.proofs.ListLaws.{count-le, count-mono, length-up_to}
 use Rattle.model.proofs.HoldingLaws.{count_entries}
-use Rattle.model.proofs.Meaning.{table-sound, layout-read}
+use Rattle.model.proofs.Meaning.{bytes_back as sound-formed, table-sound, layout-read}
 use Rattle.model.proofs.ClockLaws.{placed}
-use Rattle.query.specs.Whole.{query_refusal}
+use Rattle.query.specs.declared.Query.{Query}
+use Rattle.query.specs.Whole.{query_refusal, QueryOf}
+use Rattle.layout.specs.declared.Layout as code
+use Rattle.layout.specs.Places.{layout_in, LayoutFor}
+use Rattle.llq.specs.Refused.{Finds}
 use Rattle.table.specs.Written.{WellFormed, Written}
 use Rattle.table.specs.Fresh.{fresh}
-use Rattle.llq.specs.Answer.{Measures, Matches, table_from, outcome_from, before_options, table_done, outcomes_done, Answers}
-use Rattle.llq.proofs.ReplyLaws.{length-matched, length-mismatched, options-next, reply-written}
+use Rattle.llq.specs.Answer.{Measures, Matches, QuestionsOf, table_from, outcome_from, before_options, table_done, outcomes_done, Answers}
+use Rattle.llq.proofs.ReplyLaws.{length-matched, length-mismatched, options-none, options-next, reply-written}
 use Rattle.llq.proofs.OrderLaws.{from-none, from_next, outcome-next, start, after_is, outcomes-is}
 use Rattle.llq.proofs.LadderLaws.{no_room, serve-done}
 
@@ -59,6 +64,14 @@ sound-live b h =
     let all = count_entries t.clock.running t.slots dead in
     omega (arith, some, all, (table-sound b h).ages)
 
+-- what moving the clock of a sound table on asks, where its layout is found
+pub found-moves : (b : List ℕ) (l : code.Layout) (week second p : ℕ) → Finds week second b (Ok l) → p ≡ place_of week second
+    → WellFormed b × LayoutFor l (length b) × ((read_table b).clock.place < cycle_of (layout_in l).weeks) × (p < cycle_of (layout_in l).weeks)
+    × (count (read_table b).slots (slot_run_out (read_table b).clock.running) ≡ 0)
+found-moves b l week second p f e =
+    let v : valid_reading (layout_in l).weeks week second ≡ true = subst (λ (k : Layout). valid_reading k.weeks week second ≡ true) (sym f.2.0) f.1 in
+    (sound-formed b f.0, f.2, sound-place b f.2.0 f.0, reading-place (layout_in l) week second refl v e, sound-live b f.0)
+
 -- a tick's count fits its field
 pub freed-few : (b : List ℕ) (p : ℕ) → sound_bytes b ≡ true → freed_by (read_table b) p ≤ 64
 unfolding freed_by
@@ -73,29 +86,43 @@ pub fresh-is : (c : MakeCall) (l : Layout) (p n size : ℕ) → l ≡ layout_of 
 unfolding fresh_table
 fresh-is c l p n size g e f = rw (g, e, f)
 
--- ONE OPTION MORE
+-- what a query gives the writers: its measures, and its questions in order
+pub measures : (d : List ℕ) (q : Query) → QueryOf d q → Measures d q.count q.end
+measures d q h = record { count = h.count; at_most = h.at_most; end = h.end; from = h.from; within = h.within }
 
-module _ (s : Sender) (r : ℕ) (d b : List ℕ) where
-  pub written_none : WellFormed b → Written b (table_from s r d (read_table b) 0)
-  written_none formed =
-      record { bytes = sym formed ∙ ap table_bytes (sym (from-none s r d (read_table b))); read = sym (from-none s r d (read_table b)) }
+pub questions-of : (d : List ℕ) (q : Query) → QueryOf d q → QuestionsOf d q.count q.questions
+questions-of d q h i e l = (h.question i e l, h.placed i e l, h.len i e l)
 
-  module _ (i : ℕ) (u : List ℕ) (w : Written u (table_from s r d (read_table b) i)) (q : Question) (o : LlqOption) (f : q ≡ question d i) (g : o ≡ llq_option d i)
-    where
-      pub written_next : (v : List ℕ) → Written v (serve_option s r q o (read_table u)).table → Written v (table_from s r d (read_table b) (i + 1))
-      written_next v x =
-          let e = from_next s r d (read_table b) i (read_table u) q o w.read f g in
-          record { bytes = x.bytes ∙ ap table_bytes e; read = x.read ∙ e }
+-- THE OPTIONS IN ORDER
 
-      pub reply-next : (at : ℕ) (lent x y : List ℕ)
-          → x ≡ splice at (22 * i) (flat option_bytes (up_to i (outcome_from s r d (read_table b)))) lent
-          → y ≡ splice (at + 22 * i) 22 (option_bytes (serve_option s r q o (read_table u)).outcome) x → at + 22 * (i + 1) ≤ length lent
-          → y ≡ splice at (22 * (i + 1)) (flat option_bytes (up_to (i + 1) (outcome_from s r d (read_table b)))) lent
-      reply-next at lent x y h k l =
-          let e = outcome-next s r d (read_table b) i (read_table u) q o w.read f g in
-          k ∙ (ap (λ (z : Outcome). splice (at + 22 * i) 22 (option_bytes z) x) e
-          ∙ (ap (splice (at + 22 * i) 22 (option_bytes (outcome_from s r d (read_table b) i))) h
-          ∙ options-next (outcome_from s r d (read_table b)) at i lent l))
+-- the first i are served, and their outcomes stand in the reply from index at on
+pub record ServedTo (s : Sender) (r : ℕ) (d before after lent left : List ℕ) (at i : ℕ) : Type 0 where
+  pub table : Written after (table_from s r d (read_table before) i)
+  pub reply : left ≡ splice at (22 * i) (flat option_bytes (up_to i (outcome_from s r d (read_table before)))) lent
+
+module _ (s : Sender) (r : ℕ) (d b lent : List ℕ) (at : ℕ) where
+  pub served_none : WellFormed b → ServedTo s r d b b lent lent at 0
+  served_none formed =
+      record {
+        table = record { bytes = sym formed ∙ ap table_bytes (sym (from-none s r d (read_table b))); read = sym (from-none s r d (read_table b)) };
+        reply = sym (options-none (outcome_from s r d (read_table b)) at lent);
+      }
+
+  -- one option more, as the code has it: o, on question q
+  module _ (i : ℕ) (u x : List ℕ) (h : ServedTo s r d b u lent x at i) (q : Question) (o : LlqOption) (f : q ≡ question d i) (g : o ≡ llq_option d i) where
+    pub served-next : (v y : List ℕ) → Written v (serve_option s r q o (read_table u)).table
+        → y ≡ splice (at + 22 * i) 22 (option_bytes (serve_option s r q o (read_table u)).outcome) x → at + 22 * (i + 1) ≤ length lent
+        → ServedTo s r d b v lent y at (i + 1)
+    served-next v y w k l =
+        let e = from_next s r d (read_table b) i (read_table u) q o h.table.read f g in
+        let out = outcome_from s r d (read_table b) in
+        let here = outcome-next s r d (read_table b) i (read_table u) q o h.table.read f g in
+        record {
+          table = record { bytes = w.bytes ∙ ap table_bytes e; read = w.read ∙ e };
+          reply =
+              k ∙ (ap (λ (z : Outcome). splice (at + 22 * i) 22 (option_bytes z) x) here
+              ∙ (ap (splice (at + 22 * i) 22 (option_bytes (out i))) h.reply ∙ options-next out at i lent l));
+        }
 
 -- THE ANSWER'S BYTES
 

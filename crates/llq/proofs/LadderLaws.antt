@@ -1,4 +1,5 @@
 -- Each way out of a call, refused or answered, is the model's. Assumes nothing.
+use Rattle.std.specs.Prelude.{Err}
 use Prim.Native.Nat.{ℕ, zero, suc, ◌≤◌, ◌<◌}
 use native.Mathlib.Omega.{arith}
 use mathlib.Core.Path.{◌≡◌, refl, sym, ap, ◌∙◌}
@@ -17,6 +18,9 @@ use Rattle.model.specs.Calls.{MakeCall, TickCall, ServeCall, Made, Ticked, Answe
 use Rattle.model.specs.Meets.{MakeMeets, TickMeets, ServeMeets}
 use Rattle.model.proofs.CallLaws.{make-answered, tick-answered, serve-answered}
 use Rattle.query.specs.Whole.{query_refusal}
+use Rattle.llq.specs.declared.Refusal.{Refusal}
+use Rattle.llq.specs.declared.Refusal.TheVariants.{Table, Reading, Datagram, Room, Roster}
+use Rattle.llq.specs.Refused.{number_of, Finds}
 
 -- THE LADDER
 
@@ -102,13 +106,13 @@ module _ (c : TickCall) (b : List ℕ) where
   unfolding tick_refusal
   tick-ladder e f h k = rw (h, k)
 
-  pub tick-unsound : sound_bytes b ≡ false → TickMeets c b b 1 0
+  pub tick-found : (e : Refusal) → Finds c.week c.second b (Err e) → TickMeets c b b (number_of e) 0
   unfolding refusal
-  tick-unsound e = tick-refused 0 (tick-ladder _ _ e refl)
-
-  pub tick-reading : sound_bytes b ≡ true → valid_reading (layout_of (length b)).weeks c.week c.second ≡ false → TickMeets c b b 2 0
-  unfolding refusal
-  tick-reading e f = tick-refused 1 (tick-ladder _ _ e f)
+  tick-found Table h = tick-refused 0 (tick-ladder _ _ h refl)
+  tick-found Reading h = tick-refused 1 (tick-ladder _ _ h.0 h.1)
+  tick-found (Datagram q) h = absurd h
+  tick-found Room h = absurd h
+  tick-found Roster h = absurd h
 
   pub tick-done : (after : List ℕ) (k : ℕ) → sound_bytes b ≡ true → valid_reading (layout_of (length b)).weeks c.week c.second ≡ true
       → after ≡ table_bytes (moved_on (read_table b) (place_of c.week c.second)) → k ≡ freed_by (read_table b) (place_of c.week c.second)
@@ -156,11 +160,12 @@ module _ (c : ServeCall) (b reply : List ℕ) where
   unfolding serve_refusal refusal
   serve-ladder e f h k = rw (h, k)
 
-  pub serve-unsound : sound_bytes b ≡ false → ServeMeets c b b reply reply 1 0
-  serve-unsound e = serve-refused 0 (serve-ladder _ _ e refl)
-
-  pub serve-reading : sound_bytes b ≡ true → valid_reading (layout_of (length b)).weeks c.week c.second ≡ false → ServeMeets c b b reply reply 2 0
-  serve-reading e f = serve-refused 1 (serve-ladder _ _ e f)
+  pub serve-found : (e : Refusal) → Finds c.week c.second b (Err e) → ServeMeets c b b reply reply (number_of e) 0
+  serve-found Table h = serve-refused 0 (serve-ladder _ _ h refl)
+  serve-found Reading h = serve-refused 1 (serve-ladder _ _ h.0 h.1)
+  serve-found (Datagram q) h = absurd h
+  serve-found Room h = absurd h
+  serve-found Roster h = absurd h
 
   -- refusals 3 to 7
   pub serve-query : (k : ℕ) → sound_bytes b ≡ true → valid_reading (layout_of (length b)).weeks c.week c.second ≡ true → k ≡ query_refusal c.datagram → 0 < k

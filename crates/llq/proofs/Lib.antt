@@ -2,4 +2,3 @@ pub mod ReplyLaws
 pub mod OrderLaws
 pub mod LadderLaws
 pub mod AnswerLaws
-pub mod FoundLaws

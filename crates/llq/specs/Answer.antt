@@ -7,7 +7,6 @@ use Rattle.model.specs.Serve.{Sender, Outcome, serve_option}
 use Rattle.wire.specs.Records.{question_of, option_of}
 use Rattle.wire.specs.declared.Question.{Question}
 use Rattle.wire.specs.declared.LlqOption.{LlqOption}
-use Rattle.llq.specs.declared.Served.{Served}
 use Rattle.model.specs.Reply.{header_bytes, question_bytes, opt_bytes, reply_bytes, reply_length, mismatch}
 
 -- how many questions a query has, and where they end
@@ -56,10 +55,3 @@ outcomes_done s r d t = cond (matched d) (up_to (qdcount d) (outcome_from s r d 
 pub record Answers (s : Sender) (r : ℕ) (d before after lent left : List ℕ) : Type 0 where
   pub table : after ≡ table_bytes (table_done s r d (read_table before))
   pub reply : left ≡ reply_bytes d (outcomes_done s r d (read_table before)) ++ drop (reply_length d) lent
-
--- a refused datagram has no reply, an answered one has its length
-abbrev pub refused_by : ℕ → Served
-refused_by k = record { number = k; length = 0 }
-
-abbrev pub answered_with : ℕ → Served
-answered_with k = record { number = 0; length = k }

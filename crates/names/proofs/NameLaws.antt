@@ -10,16 +10,17 @@ use lib.ListN.{length, get_or}
 use lib.Dec.{eqb, ltb}
 use lib.Seq.{drop-cons}
 use borrow.Author.Tests.{eqb-true, eq-eqb, ne_eqb, ltb-true, lt-ltb, le-ltb}
-use Rattle.model.specs.Lists.{bit, every}
+use Rattle.std.specs.Int.{from_bool}
+use Rattle.model.specs.Lists.{every}
 use Rattle.model.specs.Numbers.{part}
-use Rattle.model.specs.Names.{fold, lower_name}
+use Rattle.model.specs.Names.{upper, fold, lower_name}
 use Rattle.model.proofs.NumberLaws.{part_none, length_part}
 use Rattle.model.proofs.ListLaws.{iff, every_append, part-add}
 use Rattle.model.proofs.NameLaws.{below-upper, fold_same}
 use Rattle.layout.proofs.ShapeLaws.{part-head}
 use Rattle.names.specs.Labels.{labelled, lower_case}
 use Rattle.names.proofs.FoldTable.{upper-folds}
-use Rattle.octets.proofs.Cover.{bit-none}
+use Rattle.octets.proofs.Cover.{cover}
 
 -- THE TWO TESTS are the name's
 
@@ -112,13 +113,22 @@ module _ (s : List ℕ) (at len i : ℕ) (inv : labelled 0 (part at len s) ≡ l
 abbrev pub lower_bytes : List ℕ → ℕ → ℕ → Bool
 lower_bytes s at n = lower_case (part at n s)
 
+-- the byte of a test is zero exactly if it fails
+byte-none : (v : Bool) → eqb (from_bool v) 0 ≡ not v
+byte-none true = refl
+byte-none false = refl
+
 module _ (s : List ℕ) where
   -- n bytes are j and then k
   pub lower-both : (at n j k : ℕ) → j + k ≡ n → at + n ≤ length s → lower_bytes s at j && lower_bytes s (at + j) k ≡ lower_bytes s at n
   lower-both at n j k e h =
       sym (ap (λ (x : ℕ). lower_bytes s at x) (sym e) ∙ ap lower_case (part-add at j k s) ∙ every_append (λ b. eqb (fold b) b) (part at j s) (part (at + j) k s))
 
-  pub lower-one : (at : ℕ) → at < length s → eqb (bit (not (eqb (fold (get_or s at 0)) (get_or s at 0)))) 0 ≡ lower_bytes s at 1
+  pub lower-one : (at : ℕ) → at < length s → eqb (from_bool (upper (get_or s at 0))) 0 ≡ lower_bytes s at 1
   unfolding every part
   lower-one at h =
-      let v = eqb (fold (get_or s at 0)) (get_or s at 0) in rw (drop-cons s at 0 h) (bit-none (not v) ∙ not-not v ∙ sym (and-true v))
+      let b = get_or s at 0 in rw (drop-cons s at 0 h, upper-folds b) (byte-none (not (eqb (fold b) b)) ∙ not-not (eqb (fold b) b) ∙ sym (and-true (eqb (fold b) b)))
+
+  -- the first m and the last k are all n
+  pub lower-cover : (at n m k : ℕ) → m ≤ n → k ≤ n → n ≤ m + k → at + n ≤ length s → lower_bytes s at m && lower_bytes s (at + (n - k)) k ≡ lower_bytes s at n
+  lower-cover = cover (lower_bytes s) _ lower-both

@@ -11,6 +11,8 @@ use lib.Dec.{eqb}
 use Rattle.model.specs.Numbers.{big_endian, bytes_of, Bytes, part}
 use borrow.Author.Tests.{eqb-true, eqb-false}
 use Rattle.model.specs.Lists.{same}
+use Rattle.model.specs.Names.{Compared, compared}
+use Rattle.model.proofs.CompareLaws.{pairs-most}
 use Rattle.model.proofs.NumberLaws.{bytes-big, big-part, part-next, length_part}
 use Rattle.model.proofs.ListLaws.{test, same_refl, same-no, same-append, part-add}
 
@@ -62,3 +64,7 @@ two-words-same s t a b w p q h l =
       word_same s t a b w p q (omega arith) (omega arith),
       word_same s t (a + w) (b + w) w p q (omega arith) (omega arith),
     )
+
+-- a comparison looks at no more pairs than there are
+pub pairs-within : (s t : List ℕ) (a b k : ℕ) {r : Compared} → r ≡ compared (part a k s) (part b k t) → a + k ≤ length s → r.pairs ≤ k
+pairs-within s t a b k e h = omega (arith, ap (λ (z : Compared). z.pairs) e, length_part a k s h, pairs-most (part a k s) (part b k t))

@@ -3,11 +3,10 @@
 use Prim.Native.Nat.{ℕ, ◌+◌, ◌-◌, ◌≤◌}
 use native.Mathlib.Omega.{arith}
 use mathlib.Core.Path.{◌≡◌, refl, sym, ◌∙◌}
-use mathlib.Core.Bool.{Bool, true, false, not, ◌&&◌}
+use mathlib.Core.Bool.{Bool, ◌&&◌}
 use lib.Bits.{bit_or, or_add_and, and_le_l, and_le_r, or_zero_l}
 use lib.Dec.{eqb}
 use borrow.Author.Tests.{eqb-true, eq-eqb}
-use Rattle.model.specs.Lists.{bit}
 use Rattle.model.proofs.ListLaws.{iff, and_left, and_right, and_both}
 
 -- an `or` is zero exactly if both are
@@ -24,11 +23,6 @@ or-zero a b =
     let x : a ≡ 0 = eqb-true a 0 (and_left (eqb a 0) (eqb b 0) e) in
     let y : b ≡ 0 = eqb-true b 0 (and_right (eqb a 0) (eqb b 0) e) in
     eq-eqb (bit_or a b) 0 (rw (x, y) (or_zero_l 0)))
-
--- the number of a test is zero exactly if it fails
-pub bit-none : (v : Bool) → eqb (bit v) 0 ≡ not v
-bit-none true = refl
-bit-none false = refl
 
 module _ (T : ℕ → ℕ → Bool) (end : ℕ) (both : (at n j k : ℕ) → j + k ≡ n → at + n ≤ end → T at j && T (at + j) k ≡ T at n) where
   -- one byte more: x is zero exactly if those passed pass, y exactly if the next does

@@ -1,28 +1,22 @@
--- Zeros, step by step. Assumes nothing.
+-- Zeros. Assumes nothing.
 use Prim.Native.Nat.{ℕ, zero, suc, ◌+◌, ◌-◌, ◌*◌, ◌≤◌, ◌<◌}
 use native.Mathlib.Numerals.{add-one}
 use native.Mathlib.Omega.{arith}
 use mathlib.Core.Path.{◌≡◌, refl, sym, ap, ◌∙◌}
 use mathlib.Core.Bool.{Bool, true, false, ◌&&◌, and-true, and-false}
 use mathlib.Core.List.{List}
-use lib.ListN.{length, get_or, set, replicate, length-replicate, replicate-append-replicate}
+use lib.ListN.{length, get_or, replicate, length-replicate, replicate-append-replicate}
 use lib.Dec.{eqb}
 use borrow.Author.Tests.{eqb-true, eq-eqb}
 use lib.Seq.{drop-cons}
 use Rattle.model.specs.Lists.{same}
-use Rattle.model.specs.Numbers.{big_endian, part, splice}
-use Rattle.model.proofs.NumberLaws.{length_part, part_none, splice-next}
+use Rattle.model.specs.Numbers.{big_endian, part}
+use Rattle.model.proofs.NumberLaws.{length_part, part_none}
 use Rattle.model.proofs.ListLaws.{iff, and_left, and_right, and_both, same-append, part-add, eqb-sym}
 
 -- zeros
 abbrev pub noughts : ℕ → List ℕ
 noughts n = replicate n 0
-
--- a turn of a clearing
-pub clear_step : (at i : ℕ) (s : List ℕ) → at + i < length s → set (splice at i (noughts i) s) (at + i) 0 ≡ splice at (i + 1) (noughts (i + 1)) s
-clear_step at i s h =
-    splice-next at i 0 (noughts i) s (length-replicate i 0) h
-    ∙ ap (λ (x : List ℕ). splice at (i + 1) x s) (replicate-append-replicate i 1 0)
 
 -- a number is zero exactly if its bytes are
 number-next : (x b : ℕ) → eqb x 0 && eqb b 0 ≡ eqb (x * 256 + b) 0

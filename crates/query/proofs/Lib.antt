@@ -1,3 +1,4 @@
+pub mod Handed
 pub mod HeaderLaws
 pub mod QuestionLaws
 pub mod OptionLaws

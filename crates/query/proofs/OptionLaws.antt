@@ -14,7 +14,16 @@ use Rattle.model.proofs.ListLaws.{never, every-nil, every-snoc, length-map}
 use Rattle.wire.specs.Records.{padded, option_record}
 use Rattle.wire.specs.declared.LlqOption.{LlqOption}
 use Rattle.wire.proofs.Pad.{keep-more, keep-full}
-use Rattle.query.specs.Parts.{blank_option, is_llq, is_sized, llq_from, first_eight, OptionsRead}
+use Rattle.query.specs.Parts.{blank_option, is_llq, is_sized, llq_from, first_eight, OptionsOf}
+
+-- the default option is all zero
+abbrev option_value : ℕ → ℕ → ℕ → ℕ → ℕ → LlqOption
+option_value number lease version opcode error = record { version = version; opcode = opcode; error = error; number = record { 0 = number }; lease = lease }
+
+pub default-blank : (o : LlqOption) → (o.number.0 ≡ 0) × ((o.lease ≡ 0) × ((o.version ≡ 0) × ((o.opcode ≡ 0) × (o.error ≡ 0)))) → o ≡ blank_option
+default-blank o e =
+    let f : option_value o.number.0 o.lease o.version o.opcode o.error ≡ blank_option = rw (e.0, e.1.0, e.1.1.0, e.1.1.1.0, e.1.1.1.1) in
+    f
 
 -- what the loop knows at a place: the options of code 1 that it passed, and that the rest is read from there, with turns enough
 pub record Passed (d : List ℕ) (first at count : ℕ) (sized : Bool) (all : List LlqOption) : Type 0 where
@@ -149,17 +158,15 @@ module _ (d : List ℕ) (first at count : ℕ) (sized : Bool) (all : List LlqOpt
   some = let a = p.enough in let b = p.within in omega arith
 
   -- no whole option, and bytes left: the options do not fill the datagram
-  pub read-bad : at < length d → good_option d at ≡ false → OptionsRead d first (record { all = all; count = count; sized = sized; fill = false })
+  pub read-bad : at < length d → good_option d at ≡ false → options_fill (suc (length d)) d first ≡ false
   unfolding options_fill
   read-bad l g =
       let s = some in
       let e : p.turns ≡ suc (p.turns - 1) = omega arith in
-      let f : options_fill (suc (length d)) d first ≡ false =
-      p.fill ∙ ap (λ (m : ℕ). options_fill m d at) e ∙ rw (ne_eqb at (length d) (λ e. omega arith), g) in
-      record { fill = sym f; count = λ z. never z refl; sized = λ z. never z refl; all = λ z. never z refl }
+      p.fill ∙ ap (λ (m : ℕ). options_fill m d at) e ∙ rw (ne_eqb at (length d) (λ e. omega arith), g)
 
   -- the end: they do
-  pub read-end : length d ≤ at → OptionsRead d first (record { all = all; count = count; sized = sized; fill = true })
+  pub read-end : length d ≤ at → (options_fill (suc (length d)) d first ≡ true) × OptionsOf d first (record { all = all; count = count; sized = sized })
   unfolding options_fill options_from good_option keep
   read-end l =
       let s = some in
@@ -170,9 +177,4 @@ module _ (d : List ℕ) (first at count : ℕ) (sized : Bool) (all : List LlqOpt
       let n : llq_from d first ≡ p.passed =
       p.list ∙ ap (λ (m : ℕ). p.passed ++ keep is_llq (options_from m d at)) e
       ∙ rw (lt-leb (at + 4 + big_endian d (at + 2) 2) (length d) (omega arith)) (append-nil p.passed) in
-      record {
-        fill = sym f;
-        count = λ z. rw n p.counted;
-        sized = λ z. rw n p.all_sized;
-        all = λ z y. rw n (p.stored y);
-      }
+      (f, record { count = rw n p.counted; sized = rw n p.all_sized; all = λ y. rw n (p.stored y) })

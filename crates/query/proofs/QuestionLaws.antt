@@ -7,19 +7,26 @@ use mathlib.Core.Logic.{⊎_elim}
 use native.Mathlib.Omega.{arith}
 use native.Mathlib.Numerals.{add-one}
 use lib.ListN.{length, get_or, set, replicate}
+use Rattle.std.specs.Prelude.{Some}
 use Rattle.model.specs.Lists.{up_to}
 use Rattle.model.specs.Query.{good_question, question_at, question_end, question_start, question, good_questions}
 use Rattle.model.proofs.ListLaws.{test, never, and_both, every-nil, every-next, up_to-next, up_to-none, length-up_to, get_or-up_to}
 use Rattle.model.proofs.NameLaws.{question-within}
 use Rattle.model.proofs.QueryLaws.{good-at}
-use Rattle.wire.specs.Records.{question_of, padded, record_at}
+use Rattle.wire.specs.Records.{question_of, padded, question_record, record_at}
 use Rattle.wire.specs.Read.{cursor, read_question}
 use Rattle.wire.specs.declared.Cursor.{Cursor}
 use Rattle.wire.specs.declared.Question.{Question}
-use Rattle.wire.specs.declared.QuestionRead.TheVariants.{Found}
+use Rattle.wire.specs.declared.QuestionRead.{QuestionRead}
 use Rattle.wire.proofs.Pad.{pad-none, pad-more, pad-at}
 use Rattle.wire.proofs.Reading.{question-is}
-use Rattle.query.specs.Parts.{blank_question, record_of, first_questions, QuestionsRead}
+use Rattle.query.specs.Parts.{blank_question, record_of, first_questions, QuestionsOf}
+
+-- the default question is all zero
+pub default-blank : (q : Question) → (q.start ≡ 0) × ((q.len ≡ 0) × ((q.qtype ≡ 0) × (q.qclass ≡ 0))) → q ≡ blank_question
+default-blank q e =
+    let f : question_record q.start q.len q.qtype q.qclass ≡ blank_question = rw (e.0, e.1.0, e.1.1.0, e.1.1.1) in
+    f
 
 module _ (d : List ℕ) where
   good_none : good_questions d 0 ≡ true
@@ -48,8 +55,7 @@ module _ (d : List ℕ) where
       ∙ ap (padded 8 blank_question) (sym (up_to-next i (record_of d)))
 
   -- a question that is found starts in the datagram, and its name is short: both fit 16 bits
-  pub found-fits : (at : ℕ) {start len qtype qclass : ℕ} {next : Cursor} → length d ≤ 1472 → read_question d at ≡ Found start len qtype qclass next
-      → (start ≤ 1472) × (len ≤ 255)
+  pub found-fits : (at : ℕ) {q : QuestionRead} {next : Cursor} → length d ≤ 1472 → Some (q, next) ≡ read_question d at → (q.start ≤ 1472) × (q.len ≤ 255)
   found-fits at l e =
       let q = question-is d at e in
       let w = question-within d at q.0 in
@@ -81,15 +87,16 @@ module _ (d : List ℕ) where
         }
 
     -- a bad one
-    pub read-bad : (n : ℕ) → good_question d at ≡ false → QuestionsRead d m (record { all = all; next = cursor n; good = false })
-    read-bad n b = record { good = sym (bad-at m i l (rw p.start at b)); next = λ s z. never z refl; all = λ s z. never z refl }
+    pub read-bad : good_question d at ≡ false → good_questions d m ≡ false
+    read-bad b = bad-at m i l (rw p.start at b)
 
   -- all m are read
-  pub read-end : (m i at : ℕ) (all : List Question) → i ≡ m → (1 ≤ m → Passed i at all) → QuestionsRead d m (record { all = all; next = cursor at; good = true })
-  read-end zero i at all e f = record { good = sym good_none; next = λ s z. absurd (omega arith); all = λ s z. absurd (omega arith) }
-  read-end (suc m) i at all e f =
+  pub read-end : (m at : ℕ) (all : List Question) → (1 ≤ m → Passed m at all)
+      → (good_questions d m ≡ true) × QuestionsOf d m (record { all = all; next = cursor at })
+  read-end zero at all f = (good_none, record { next = λ s. absurd (omega arith); all = λ s. absurd (omega arith) })
+  read-end (suc m) at all f =
       let p = f (omega arith) in
-      record { good = sym (rw e at p.good); next = λ s z. rw e at p.start; all = λ s z. rw e at p.stored }
+      (p.good, record { next = λ s. p.start; all = λ s. p.stored })
 
   -- question i in the array is the model's, and its name is of at most 255 bytes, in the datagram
   module _ (m : ℕ) (g : good_questions d m ≡ true) (i : ℕ) (e : Question) (l : i < m) where

@@ -1,12 +1,13 @@
 -- The whole query: the refusal's number, and what is read where there is none. Assumes nothing.
-use Rattle.std.specs.Prelude.{ℕ, ◌+◌, ◌≤◌, ◌<◌, ◌≡◌, Bool, true, not, ◌&&◌, List, [], ◌∷◌, length, get_or, eqb}
+use Rattle.std.specs.Prelude.{ℕ, ◌+◌, ◌≤◌, ◌<◌, ◌≡◌, Bool, not, ◌&&◌, List, [], ◌∷◌, length, get_or, eqb, Result, Ok, Err, Some, is_some}
 use Rattle.model.specs.Query.{wrong_size, message_number, flag_rd, qdcount, good_header, good_questions, questions_end, question, good_opt, llq_options, llq_option, matched}
 use Rattle.model.specs.Calls.{refusal}
 use Rattle.wire.specs.Records.{question_of, option_of}
 use Rattle.wire.specs.declared.Question.{Question}
 use Rattle.wire.specs.declared.LlqOption.{LlqOption}
 use Rattle.query.specs.declared.Query.{Query}
-use Rattle.query.specs.declared.Parsed.{Parsed}
+use Rattle.query.specs.declared.Refusal.{Refusal}
+use Rattle.query.specs.Parts.{number_of}
 
 -- refusals 3 to 7, the part of the model's ladder that a datagram alone decides
 unfoldable pub query_refusal : List ℕ → ℕ
@@ -18,11 +19,6 @@ query_refusal d =
     ∷ (6, not (good_opt d (questions_end d)))
     ∷ (7, eqb (length (llq_options d)) 0)
     ∷ [])
-
--- the same from the parts' verdicts, header's 3 or 4 first
-unfoldable pub lowest_refusal : ℕ → Bool → Bool → Bool → ℕ → ℕ
-lowest_refusal header questions opt fill count =
-    refusal ((header, not (eqb header 0)) ∷ (5, not questions) ∷ (6, not opt) ∷ (6, not fill) ∷ (7, eqb count 0) ∷ [])
 
 -- the count and length test
 abbrev pub match_of : ℕ → ℕ → Bool → Bool
@@ -41,9 +37,10 @@ pub record QueryOf (d : List ℕ) (q : Query) : Type 0 where
   pub end : q.end ≡ questions_end d
   pub from : 12 ≤ q.end
   pub within : q.end + 11 ≤ length d
-  pub matched : q.matched ≡ matched d
-  pub option : q.matched ≡ true → (i : ℕ) (e : LlqOption) → i < q.count → option_of (get_or q.options i e) ≡ llq_option d i
+  pub matched : is_some q.options ≡ matched d
+  pub option : (os : List LlqOption) → q.options ≡ Some os → (i : ℕ) (e : LlqOption) → i < q.count → option_of (get_or os i e) ≡ llq_option d i
 
-pub record Reads (d : List ℕ) (p : Parsed) : Type 0 where
-  pub refused : p.refused ≡ query_refusal d
-  pub query : p.refused ≡ 0 → QueryOf d p.query
+-- the query, or why there is none
+abbrev pub Reads : List ℕ → Result Query Refusal → Type 0
+Reads d (Ok q) = (query_refusal d ≡ 0) × QueryOf d q
+Reads d (Err e) = number_of e ≡ query_refusal d

@@ -1,2 +1,3 @@
+pub mod Address
 pub mod Asked
 pub mod State

@@ -12,7 +12,8 @@
 #![tactic(auto)]
 
 ghost use Rattle.std.specs.Prelude.{◌≤◌, ◌<◌, length};
-ghost use Rattle.script.specs.Spelled.{next_at};
+
+use script::{Call, Record};
 
 // The largest table.
 const TABLE: usize = layout::TABLE_MOST;
@@ -20,6 +21,24 @@ const TABLE: usize = layout::TABLE_MOST;
 // The most bytes of a list that are read.
 const LIST: usize = 131072;
 
+// What a list has beside calls.
+#[derive(Clone, Copy, PartialEq, Eq)]
+enum Step {
+    Compare,
+    Print,
+}
+
+impl Step {
+    fn of(r: Record) -> Option<Step> {
+        match r.kind() {
+            b'C' => Some(Step::Compare),
+            b'D' => Some(Step::Print),
+            _ => None,
+        }
+    }
+}
+
+// Printed by the crate io: std's printing would rest on two more functions of C.
 fn say(word: &[u8]) {
     io::write_all(1, word);
 }
@@ -29,60 +48,37 @@ fn say_number(n: u64) {
     io::print_decimal(1, n);
 }
 
-// The bytes in hexadecimal, eight at a time; where fewer than eight are left.
-fn say_words(s: &[u8]) -> usize
-    ensures { result ≤ length s.now }
-{
-    let mut at: usize = 0;
-    while s.len() - at >= 8 {
-        io::print_hex(1, octets::get64(s, at), 16);
-        at += 8;
-    }
-    at
-}
-
-fn say_byte(b: u8) {
-    io::print_hex(1, b as u64, 2);
-}
-
-// The bytes from index from on.
-fn say_rest(s: &[u8], from: usize)
-    requires { from ≤ length s.now }
-{
-    let mut at = from;
-    while at < s.len() {
-        say_byte(s[at]);
-        at += 1;
-    }
-}
-
+// The bytes in hexadecimal.
 fn say_bytes(s: &[u8]) {
     say(b" ");
-    let from = say_words(s);
-    say_rest(s, from);
+    for &b in s {
+        io::print_hex(1, u64::from(b), 2);
+    }
 }
 
 // A call's line, from its answer: number, freed or length, the whole reply buffer, the sum of the table.
-fn say_answer(kind: u8, answer: &[u8])
+fn say_answer(call: Call, answer: &[u8])
     requires { 12 ≤ length answer.now }
 {
-    let number = octets::get32(answer, 0) as u64;
-    let count = octets::get32(answer, 4) as u64;
-    let sum = octets::get32(answer, 8) as u64;
-    if kind == b'M' {
-        say(b"make");
-        say_number(number);
-    }
-    if kind == b'T' {
-        say(b"tick");
-        say_number(number);
-        say_number(count);
-    }
-    if kind == b'S' {
-        say(b"serve");
-        say_number(number);
-        say_number(count);
-        say_bytes(&answer[script::NUMBERS..]);
+    let number = u64::from(octets::get32(answer, 0));
+    let count = u64::from(octets::get32(answer, 4));
+    let sum = u64::from(octets::get32(answer, 8));
+    match call {
+        Call::Make => {
+            say(b"make");
+            say_number(number);
+        }
+        Call::Tick => {
+            say(b"tick");
+            say_number(number);
+            say_number(count);
+        }
+        Call::Serve => {
+            say(b"serve");
+            say_number(number);
+            say_number(count);
+            say_bytes(&answer[script::NUMBERS..]);
+        }
     }
     say_number(sum);
     say(b"\n");
@@ -90,33 +86,29 @@ fn say_answer(kind: u8, answer: &[u8])
 
 // A line for each call of a piece.
 fn say_answers(s: &[u8], answers: &[u8]) {
+    let mut rest = answers;
     let mut at: usize = 0;
-    let mut to: usize = 0;
-    while script::whole(s, at) {
-        let n = script::answer_length(s, at);
-        if answers.len() - to < n {
+    while let Some(record) = Record::at(s, at) {
+        let Some((answer, after)) = rest.split_at_checked(record.answer_length()) else {
             return;
+        };
+        if let Some(call) = record.call() {
+            say_answer(call, answer);
         }
-        let end = to + n;
-        if n >= script::NUMBERS {
-            say_answer(s[at], &answers[to..end]);
-        }
-        to = end;
-        at = script::next(s, at);
+        rest = after;
+        at = record.next();
     }
 }
 
 // A piece on the lent table.
 fn run(s: &[u8], t: &mut [u8], answers: &mut [u8]) {
-    let r = script::run(s, t, answers);
-    if r.done {
-        say_answers(s, answers);
-    } else {
-        say(b"the answers do not fit\n");
+    match script::run(s, t, answers) {
+        Some(_) => say_answers(s, answers),
+        None => say(b"the answers do not fit\n"),
     }
 }
 
-fn dump(t: &[u8]) {
+fn say_table(t: &[u8]) {
     say(b"table");
     say_bytes(t);
     say(b"\n");
@@ -125,20 +117,17 @@ fn dump(t: &[u8]) {
 // A comparison's line: 1 where the names are the same and else 0, and how many byte pairs were looked at.
 fn say_compared(word: &[u8], r: names::Compared) {
     say(word);
-    let mut same: u64 = 0;
-    if r.same {
-        same = 1;
-    }
-    say_number(same);
+    say_number(u64::from(r.same));
     say_number(r.pairs as u64);
     say(b"\n");
 }
 
-// The stored name is the first m bytes of the body, which lies from index body to index end, and the sent one the rest: folded, and then as it
-// lies. Neither the two slices lent to the first are the same nor the places in them, so that one taken for the other shows.
-fn compare(s: &[u8], body: usize, end: usize, m: usize)
-    requires { (1 ≤ body) × (body ≤ end) × (end ≤ length s.now) }
-{
+// The stored name is as many bytes of the body as the room says, and the sent one the rest: folded, and then as it lies. Neither the two
+// slices lent to the first are the same nor the places in them, so that one taken for the other shows.
+fn compare(r: Record) {
+    let m = usize::from(r.room());
+    let body = r.at + script::HEAD;
+    let end = r.next();
     if end - body < m {
         return;
     }
@@ -146,26 +135,25 @@ fn compare(s: &[u8], body: usize, end: usize, m: usize)
     let before = body - 1;
     say_compared(
         b"compare",
-        names::compare(&s[before..end], 1, m, s, body + m, n),
+        names::compare(&r.list[before..end], 1, m, r.list, body + m, n),
     );
-    say_compared(b"stored", names::compare_stored(s, body, m, body + m, n));
+    say_compared(
+        b"stored",
+        names::compare_stored(r.list, body, m, body + m, n),
+    );
 }
 
 // The length of the table that is lent: a making sets it, and it stays for the calls after.
-fn lent(s: &[u8], at: usize, before: u16) -> u16
-    requires { next_at s.now at ≤ length s.now }
-{
-    if s[at] == b'M' {
-        return script::room(s, at);
+fn lent(r: Record, before: u16) -> u16 {
+    match r.call() {
+        Some(Call::Make) => r.room(),
+        _ => before,
     }
-    before
 }
 
 // A piece ends before names to compare, before a table to print, and before a making of another length.
-fn cuts(s: &[u8], at: usize, n: u16) -> bool
-    requires { next_at s.now at ≤ length s.now }
-{
-    s[at] == b'C' || s[at] == b'D' || lent(s, at, n) != n
+fn cuts(r: Record, n: u16) -> bool {
+    Step::of(r).is_some() || lent(r, n) != n
 }
 
 // Where the piece ends whose first record ends at index from.
@@ -174,31 +162,27 @@ fn piece(s: &[u8], from: usize, n: u16) -> usize
     ensures { (from ≤ result) × (result ≤ length s.now) }
 {
     let mut at = from;
-    while script::whole(s, at) {
-        if cuts(s, at, n) {
-            return at;
+    while let Some(record) = Record::at(s, at) {
+        if cuts(record, n) {
+            break;
         }
-        at = script::next(s, at);
+        at = record.next();
     }
     at
 }
 
-// The piece whose first record is at index at, on the lent part of the table; where it ends.
-fn run_piece(s: &[u8], at: usize, n: u16, table: &mut [u8], answers: &mut [u8]) -> usize
-    requires { next_at s.now at ≤ length s.now }
-    ensures { (at < result) × (result ≤ length s.now) }
+// The piece that starts with the record, on the lent part of the table; where it ends.
+fn run_piece(r: Record, n: u16, table: &mut [u8], answers: &mut [u8]) -> usize
+    ensures { (r.entry.at < result) × (result ≤ length r.entry.list.now) }
 {
-    let k = io::count(n as isize, table);
-    let body = at + script::HEAD;
-    let next = script::next(s, at);
-    if s[at] == b'C' {
-        compare(s, body, next, script::room(s, at) as usize);
+    let k = table.len().min(usize::from(n));
+    match Step::of(r) {
+        Some(Step::Compare) => compare(r),
+        Some(Step::Print) => say_table(&table[..k]),
+        None => {}
     }
-    if s[at] == b'D' {
-        dump(&table[..k]);
-    }
-    let end = piece(s, next, n);
-    run(&s[at..end], &mut table[..k], answers);
+    let end = piece(r.list, r.next(), n);
+    run(&r.list[r.at..end], &mut table[..k], answers);
     end
 }
 
@@ -206,9 +190,9 @@ fn run_piece(s: &[u8], at: usize, n: u16, table: &mut [u8], answers: &mut [u8]) 
 fn run_pieces(s: &[u8], table: &mut [u8], answers: &mut [u8]) {
     let mut at: usize = 0;
     let mut n: u16 = 0;
-    while script::whole(s, at) {
-        n = lent(s, at, n);
-        at = run_piece(s, at, n, table, answers);
+    while let Some(record) = Record::at(s, at) {
+        n = lent(record, n);
+        at = run_piece(record, n, table, answers);
     }
 }
 
@@ -216,6 +200,6 @@ fn main() {
     let mut list = [0u8; LIST];
     let n = io::read_full(0, &mut list);
     let mut table = [0xEEu8; TABLE];
-    let mut answers = io::large_buffer();
+    let mut answers = [0u8; 65536];
     run_pieces(&list[..n], &mut table, &mut answers);
 }

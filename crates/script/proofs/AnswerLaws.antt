@@ -1,16 +1,18 @@
 -- The laws of Answers: the sum byte by byte, a reply buffer filled, and how many bytes answers take. Assumes nothing.
+use Rattle.std.proofs.Common.{Some}
 use Prim.Native.Nat.{ℕ, ◌+◌, ◌*◌, ◌%◌, ◌≤◌, ◌<◌}
 use native.Mathlib.Numerals.{add-one}
 use native.Mathlib.Omega.{arith}
-use mathlib.Core.Path.{◌≡◌, refl, sym, ap, ◌∙◌}
-use mathlib.Core.Bool.{true}
+use mathlib.Core.Path.{◌≡◌, refl}
 use mathlib.Core.List.{List, [], ◌∷◌, ◌++◌}
-use lib.ListN.{length, take, drop, get_or, set, replicate, replicate-append-replicate, drop_of_length-le}
-use lib.Dec.{leb}
-use lib.Seq.{drop-cons, take-suc-set, take-length}
-use Rattle.claims.specs.Tally.{Call}
-use Rattle.script.specs.Spelled.{kind_at, room_at, next_at, call_at, calls_from, calls_in}
-use Rattle.script.proofs.SpelledLaws.{call-make, call-tick, call-serve, call_none, Passed, passed-next}
+use lib.ListN.{length, drop, get_or, drop_of_length-le}
+use lib.Seq.{drop-cons}
+use Rattle.claims.specs.Tally.{Call, making, ticking, serving}
+use Rattle.script.specs.Spelled.{room_at, next_at, making_at, ticking_at, serving_at, call_at, calls_from, calls_in}
+use Rattle.script.specs.declared.Call as kind
+use Rattle.script.specs.declared.Call.TheVariants.{Make, Tick, Serve}
+use Rattle.script.specs.Calls.{spelled_as}
+use Rattle.script.proofs.SpelledLaws.{Passed, passed-next}
 use Rattle.script.specs.Answers.{sum_from, answer_length, answers_length}
 
 -- one byte more
@@ -22,13 +24,6 @@ sum-next t c i x h e = rw add-one (rw (drop-cons t i 0 h) at e)
 pub sum-all : (t : List ℕ) (c i x : ℕ) → length t ≤ i → sum_from c (drop i t) ≡ x → c ≡ x
 unfolding sum_from
 sum-all t c i x h e = rw (drop_of_length-le t h) at e
-
--- a turn of a filling, and its end
-pub fill-next : (s : List ℕ) (i x : ℕ) → i < length s → take i s ≡ replicate i x → take (i + 1) (set s i x) ≡ replicate (i + 1) x
-fill-next s i x h e = rw (add-one i, take-suc-set s i x h, e) (replicate-append-replicate i 1 x ∙ ap (λ (n : ℕ). replicate n x) (add-one i))
-
-pub fill-all : (s : List ℕ) (i x : ℕ) → i ≡ length s → take i s ≡ replicate i x → s ≡ replicate (length s) x
-fill-all s i x h e = sym (take-length s) ∙ (rw h at e)
 
 pub answers-both : (cs ds : List Call) → answers_length (cs ++ ds) ≡ answers_length cs + answers_length ds
 unfolding answers_length
@@ -45,23 +40,24 @@ answers-none = refl
 
 -- of a record's call
 module _ (s : List ℕ) (at : ℕ) where
-  pub length-made : kind_at s at ≡ 77 → answers_length (call_at s at) ≡ 12
-  unfolding answers_length
-  length-made e = rw (call-make s at e)
+  pub length-made : call_at s at ≡ making (making_at s at) ∷ [] → answers_length (call_at s at) ≡ 12
+  length-made e = rw (e, answers_one)
 
-  pub length-ticked : kind_at s at ≡ 84 → answers_length (call_at s at) ≡ 12
-  unfolding answers_length
-  length-ticked e = rw (call-tick s at e)
+  pub length-ticked : call_at s at ≡ ticking (ticking_at s at) ∷ [] → answers_length (call_at s at) ≡ 12
+  length-ticked e = rw (e, answers_one)
 
-  pub length-served : kind_at s at ≡ 83 → answers_length (call_at s at) ≡ 12 + room_at s at
-  length-served e = rw (call-serve s at e, answers_one)
+  pub length-served : call_at s at ≡ serving (serving_at s at) ∷ [] → answers_length (call_at s at) ≡ 12 + room_at s at
+  length-served e = rw (e, answers_one)
 
-  pub length_none : (kind_at s at ≡ 77 → ⊥) → (kind_at s at ≡ 84 → ⊥) → (kind_at s at ≡ 83 → ⊥) → answers_length (call_at s at) ≡ 0
-  length_none m t v = rw (call_none s at m t v, answers-none)
+  -- whichever it is, it has the numbers
+  pub has-numbers : (call : kind.Call) → call_at s at ≡ spelled_as (Some call) s at → 12 ≤ answers_length (call_at s at)
+  has-numbers Make e = rw (length-made e) (omega arith)
+  has-numbers Tick e = rw (length-ticked e) (omega arith)
+  has-numbers Serve e = rw (length-served e) (omega arith)
 
--- the answers of the calls done and of the next take no more than all
-pub passed-room : (s : List ℕ) (at : ℕ) (done : List Call) → Passed s at done → leb (next_at s at) (length s) ≡ true
-    → answers_length done + answers_length (call_at s at) ≤ answers_length (calls_in s)
-passed-room s at done p w =
-    let q = passed-next s at done p w in
-    rw (q.calls, answers-both (done ++ call_at s at) (calls_from q.left s (next_at s at)), answers-both done (call_at s at)) (omega arith)
+-- the answers of the calls done and of the next, found at index i of the list u, take no more than all
+pub passed-room : (s : List ℕ) (at : ℕ) (done : List Call) (u : List ℕ) (i : ℕ) → Passed s at done → (u ≡ s) × (i ≡ at) → next_at u i ≤ length u
+    → answers_length done + answers_length (call_at u i) ≤ answers_length (calls_in s)
+passed-room s at done u i p e h =
+    let q = passed-next s at done u i p e h in
+    rw (q.calls, answers-both (done ++ call_at u i) (calls_from q.left s (next_at u i)), answers-both done (call_at u i)) (omega arith)

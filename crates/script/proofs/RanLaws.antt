@@ -1,18 +1,19 @@
 -- The laws of Ran: calls carried out one after the other, and demand 3 along them. Assumes nothing.
-use Prim.Native.Nat.{ℕ, ◌+◌, ◌≤◌}
+use Rattle.std.proofs.Common.{Some}
+use Prim.Native.Nat.{ℕ, ◌+◌, ◌-◌, ◌≤◌}
 use native.Mathlib.Nat.{add_assoc}
 use native.Mathlib.Omega.{arith}
 use mathlib.Core.Path.{◌≡◌, refl, sym, ap, ◌∙◌, subst}
-use mathlib.Core.Bool.{true, false}
+use mathlib.Core.Bool.{true}
 use mathlib.Core.List.{List, [], ◌∷◌, ◌++◌, append_assoc, append-nil, map-append}
 use lib.ListN.{length, take, drop, length-append, replicate, length-replicate}
 use lib.Dec.{leb}
-use lib.Seq.{length-take-le, take-append-le, take-take, drop_at}
+use lib.Seq.{drop-drop, length-take-le, take-append-le, take-take, drop_at}
 use Rattle.model.specs.Lists.{flat}
 use Rattle.model.specs.Numbers.{Bytes, encode, splice}
 use Rattle.model.specs.Calls.{MakeCall, TickCall, ServeCall}
 use Rattle.model.specs.Meets.{model, Makes, Ticks, Serves}
-use Rattle.model.proofs.ListLaws.{never, flat_append}
+use Rattle.model.proofs.ListLaws.{flat_append}
 use Rattle.model.proofs.NumberLaws.{splice-none, splice-splice, length-encode}
 use Rattle.claims.specs.Tally.{Call, making, ticking, serving}
 use Rattle.claims.specs.Events.{Event, made, ticked, served, call_of, table_of, Happens, Trace, AllInRange}
@@ -80,31 +81,39 @@ before-reply at j k us vs s e h =
     let d : drop (at + j) (take (at + j) s ++ (vs ++ drop (at + j + k) s)) ≡ vs ++ drop (at + j + k) s = drop_at (take (at + j) s) (vs ++ drop (at + j + k) s) (at + j) p in
     rw (t, d, add_assoc at j k, append_assoc us vs (drop (at + (j + k)) s))
 
--- d is the call as the code read it
-pub carried-made : (d c : MakeCall) (k v at : ℕ) (b t l x : List ℕ) → d ≡ c → Makes model d b t k → v ≡ sum_of t → x ≡ splice at 12 (numbers_of k 0 v) l
-    → Carried (making c ∷ []) b t l x at (at + 12)
-carried-made d c k v at b t l x e h s a =
-    carried-one (made c k t) b l at (at + 12) x (subst (λ (z : MakeCall). Makes model z b t k) e h) tt (numbers-length k 0 (sum_of t) []) refl (a ∙ bare k 0 v at t l s)
+-- m is the buffer as the call left it, before the numbers are written
+pub carried-made : (c : MakeCall) (k n v at to : ℕ) (b t l m x : List ℕ) → Makes model c b t k → n ≡ 0 → v ≡ sum_of t → m ≡ l → x ≡ splice at 12 (numbers_of k n v) m
+    → to ≡ at + 12
+    → Carried (making c ∷ []) b t l x at to
+carried-made c k n v at to b t l m x h z s e a f =
+    carried-one (made c k t) b l at to x h tt (numbers-length k 0 (sum_of t) []) f (rw (z, e) at a ∙ bare k 0 v at t l s)
 
-pub carried-ticked : (d c : TickCall) (k n v at : ℕ) (b t l x : List ℕ) → d ≡ c → Ticks model d b t k n → v ≡ sum_of t → x ≡ splice at 12 (numbers_of k n v) l
-    → Carried (ticking c ∷ []) b t l x at (at + 12)
-carried-ticked d c k n v at b t l x e h s a =
-    carried-one (ticked c k n t) b l at (at + 12) x (subst (λ (z : TickCall). Ticks model z b t k n) e h) tt (numbers-length k n (sum_of t) []) refl (a ∙ bare k n v at t l s)
+pub carried-ticked : (c : TickCall) (k n v at to : ℕ) (b t l m x : List ℕ) → Ticks model c b t k n → v ≡ sum_of t → m ≡ l → x ≡ splice at 12 (numbers_of k n v) m
+    → to ≡ at + 12
+    → Carried (ticking c ∷ []) b t l x at to
+carried-ticked c k n v at to b t l m x h s e a f =
+    carried-one (ticked c k n t) b l at to x h tt (numbers-length k n (sum_of t) []) f ((rw e at a) ∙ bare k n v at t l s)
 
 -- d is the call, and l the reply buffer, as the code has them
 pub serves-read : (d c : ServeCall) (k n : ℕ) (b t l m r : List ℕ) → d ≡ c → l ≡ m → Serves model d b t l r k n → Serves model c b t m r k n
 serves-read d c k n b t l m r e f h = subst (λ (z : ServeCall). Serves model z b t m r k n) e (subst (λ (z : List ℕ). Serves model d b t z r k n) f h)
 
--- the reply buffer, of m bytes, is written first, in its place
-pub carried-served : (c : ServeCall) (k n v m at : ℕ) (b t l r x : List ℕ) → m ≡ c.room → Serves model c b t (replicate c.room 170) r k n → length r ≡ m → v ≡ sum_of t
-    → at + 12 + m ≤ length l
-    → x ≡ splice at 12 (numbers_of k n v) (splice (at + 12) m r l)
-    → Carried (serving c ∷ []) b t l x at (at + 12 + m)
-carried-served c k n v m at b t l r x q h z s f a =
-    let y : splice at 12 (numbers_of k n (sum_of t)) (splice (at + 12) m r l) ≡ splice at (12 + m) (numbers_of k n (sum_of t) ++ r) l =
-    before-reply at 12 m (numbers_of k n (sum_of t)) r l (length-encode ((4, k) ∷ (4, n) ∷ (4, sum_of t) ∷ [])) (omega arith) in
-    carried-one (served c (replicate c.room 170) k n t r) b l at (at + 12 + m) x (sym (length-replicate c.room 170), h) refl
-    (numbers-length k n (sum_of t) r ∙ ap (λ (j : ℕ). 12 + j) (z ∙ q)) (omega arith) (rw (← q) (a ∙ (rw s y)))
+-- the reply buffer, in its place, which ends at index e
+pub reply-lent : (t vs : List ℕ) (a k e : ℕ) → e ≡ a + k → take a t ++ (vs ++ drop (e - a) (drop a t)) ≡ splice a k vs t
+unfolding splice
+reply-lent t vs a k e h = let d : e - a ≡ k = omega arith in rw (d, drop-drop)
+
+pub carried-served : (c : ServeCall) (k n v at to : ℕ) (b t l r m x : List ℕ) → Serves model c b t (replicate c.room 170) r k n → length r ≡ c.room → v ≡ sum_of t
+    → m ≡ splice (at + 12) c.room r l
+    → x ≡ splice at 12 (numbers_of k n v) m
+    → to ≡ at + 12 + c.room
+    → to ≤ length l
+    → Carried (serving c ∷ []) b t l x at to
+carried-served c k n v at to b t l r m x h z s e a f g =
+    let y : splice at 12 (numbers_of k n (sum_of t)) (splice (at + 12) c.room r l) ≡ splice at (12 + c.room) (numbers_of k n (sum_of t) ++ r) l =
+    before-reply at 12 c.room (numbers_of k n (sum_of t)) r l (length-encode ((4, k) ∷ (4, n) ∷ (4, sum_of t) ∷ [])) (omega arith) in
+    carried-one (served c (replicate c.room 170) k n t r) b l at to x (sym (length-replicate c.room 170), h) refl
+    (numbers-length k n (sum_of t) r ∙ ap (λ (j : ℕ). 12 + j) z) (omega arith) ((rw (s, e) at a) ∙ y)
 
 -- SOME, AND THEN OTHERS
 trace-both : (b : List ℕ) (es fs : List Event) → Trace model b es → Trace model (left_by b es) fs → Trace model b (es ++ fs)
@@ -160,15 +169,13 @@ demand3-along before events ranges trace =
     }
 
 -- A SCRIPT
-pub runs-not : (s b l : List ℕ) → leb (answers_length (calls_in s)) (length l) ≡ false → Runs s b b l l (record { done = false; length = 0 })
-runs-not s b l e = record { fits = sym e; kept = λ d. (refl, refl, refl); carried = λ d. never d refl; demand3 = λ d. never d refl }
-
 pub runs-all : (s b t l x : List ℕ) (n : ℕ) → Bytes s → leb (answers_length (calls_in s)) (length l) ≡ true → Carried (calls_in s) b t l x 0 n
-    → Runs s b t l x (record { done = true; length = n })
+    → Runs s b t l x (Some n)
 runs-all s b t l x n bytes e p =
     record {
       fits = sym e;
-      kept = λ d. never refl d;
-      carried = λ d. p;
-      demand3 = λ d. demand3-along b p.events (script-range s bytes p.events p.spelled) p.trace;
+      kept = λ d. absurd (cc);
+      carried = λ k d. let q : n ≡ k = cc in subst (Carried (calls_in s) b t l x 0) q p;
+      demand3 = λ k d. let q : n ≡ k = cc in
+          let r = subst (Carried (calls_in s) b t l x 0) q p in demand3-along b r.events (script-range s bytes r.events r.spelled) r.trace;
     }

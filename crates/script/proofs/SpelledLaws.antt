@@ -1,4 +1,5 @@
 -- The laws of Spelled: a record's call by its kind, the records passed and those left, and the ranges of what bytes spell. Assumes nothing.
+use Rattle.std.proofs.Common.{Some}
 use Prim.Native.Nat.{ℕ, zero, suc, ◌+◌, ◌-◌, ◌*◌, ◌^◌, ◌≤◌, ◌<◌}
 use native.Mathlib.Omega.{arith}
 use mathlib.Core.Path.{◌≡◌, refl, sym, ap, ◌∙◌, subst}
@@ -6,71 +7,38 @@ use mathlib.Core.Bool.{true, false}
 use mathlib.Core.List.{List, [], ◌∷◌, ◌++◌, append_assoc, append-nil, map}
 use lib.ListN.{length, take, drop}
 use lib.Dec.{eqb, leb}
-use borrow.Author.Tests.{leb-true, le-leb, ne_eqb}
+use borrow.Author.Tests.{le-leb, lt-leb}
 use Rattle.model.specs.Numbers.{Bytes, big_endian, part}
-use Rattle.model.proofs.ListLaws.{iff, either}
-use Rattle.model.specs.Calls.{MakeCall, TickCall, ServeCall}
+use Rattle.model.proofs.ListLaws.{either}
+use Rattle.model.specs.Calls.{ServeCall}
 use Rattle.model.proofs.NumberLaws.{big_lt, big-add, bytes-part}
-use Rattle.claims.specs.Tally.{Call, making, ticking, serving}
+use Rattle.claims.specs.Tally.{Call}
 use Rattle.claims.specs.Events.{Event, call_of, InRange, AllInRange}
+use Rattle.script.specs.declared.Call as kind
+use Rattle.script.specs.Calls.{spelled_as}
 use Rattle.script.specs.Pin.{pinned, pinned_calls, SpelledOut}
-use Rattle.script.specs.Spelled.{kind_at, week_at, second_at, address_at, port_at, random_at, room_at, size_at, body_at, next_at, making_at, ticking_at, serving_at, call_at, calls_from, calls_in}
+use Rattle.script.specs.Spelled.{kind_at, week_at, second_at, address_at, port_at, random_at, room_at, size_at, body_at, next_at, serving_at, call_at, calls_from, calls_in}
 
--- THE CALL of a record
+-- THE CALL of a record, by the call that it is found to be
+pub spelled-by : (s : List ℕ) (at : ℕ) (call k : kind.Call) → call_at s at ≡ spelled_as (Some call) s at → call ≡ k → call_at s at ≡ spelled_as (Some k) s at
+spelled-by s at call k e f = e ∙ ap (λ (j : kind.Call). spelled_as (Some j) s at) f
+
+-- ITS ARGUMENTS as the code reads them: e is the record's end
 module _ (s : List ℕ) (at : ℕ) where
-  pub call-make : kind_at s at ≡ 77 → call_at s at ≡ making (making_at s at) ∷ []
-  unfolding call_at
-  call-make e = rw e
-
-  pub call-tick : kind_at s at ≡ 84 → call_at s at ≡ ticking (ticking_at s at) ∷ []
-  unfolding call_at
-  call-tick e = rw e
-
-  pub call-serve : kind_at s at ≡ 83 → call_at s at ≡ serving (serving_at s at) ∷ []
-  unfolding call_at
-  call-serve e = rw e
-
-  pub call_none : (kind_at s at ≡ 77 → ⊥) → (kind_at s at ≡ 84 → ⊥) → (kind_at s at ≡ 83 → ⊥) → call_at s at ≡ []
-  unfolding call_at
-  call_none m t v = rw (ne_eqb (kind_at s at) 77 m, ne_eqb (kind_at s at) 84 t, ne_eqb (kind_at s at) 83 v)
-
--- a body of n bytes is there
-pub whole-read : (s : List ℕ) (at n : ℕ) → n ≡ size_at s at → at + 39 ≤ length s → leb n (length s - at - 39) ≡ leb (next_at s at) (length s)
-whole-read s at n e h =
-    iff (leb n (length s - at - 39)) (leb (next_at s at) (length s))
-    (λ w. le-leb (next_at s at) (length s) (omega (arith, leb-true n (length s - at - 39) w)))
-    (λ w. le-leb n (length s - at - 39) (omega (arith, leb-true (next_at s at) (length s) w)))
-
--- THE ARGUMENTS as the code reads them: w week, x second, e the record's end
-module _ (s : List ℕ) (at : ℕ) where
-  body-read : (e : ℕ) → e ≡ next_at s at → take (e - (at + 39)) (drop (at + 39) s) ≡ body_at s at
+  pub body-read : (e : ℕ) → e ≡ next_at s at → take (e - (at + 39)) (drop (at + 39) s) ≡ body_at s at
   unfolding part
   body-read e p = let d : e - (at + 39) ≡ size_at s at = omega arith in rw d
-
-  pub make-read : (w x e : ℕ) → w ≡ week_at s at → x ≡ second_at s at → e ≡ next_at s at
-      → ◌≡◌ {A = MakeCall} (record { week = w; second = x; roster = take (e - (at + 39)) (drop (at + 39) s) }) (making_at s at)
-  make-read w x e p q r = rw (body-read e r, p, q)
-
-  pub tick-read : (w x : ℕ) → w ≡ week_at s at → x ≡ second_at s at → ◌≡◌ {A = TickCall} (record { week = w; second = x }) (ticking_at s at)
-  tick-read w x p q = rw (p, q)
 
   -- an address is its two halves
   address_read : (h l : ℕ) → h ≡ big_endian s (at + 9) 8 → l ≡ big_endian s (at + 17) 8 → h * 2 ^ 64 + l ≡ address_at s at
   address_read h l p q = let d : at + 17 ≡ at + 9 + 8 = omega arith in rw (p, q, d) (sym (big-add s (at + 9) 8 8))
 
-  pub serve-read : (w x h l p r e n : ℕ) → w ≡ week_at s at → x ≡ second_at s at → h ≡ big_endian s (at + 9) 8 → l ≡ big_endian s (at + 17) 8
-      → p ≡ port_at s at → r ≡ random_at s at → e ≡ next_at s at → n ≡ room_at s at
+  pub serve-read : (w x h l p r n : ℕ) (b : List ℕ) → w ≡ week_at s at → x ≡ second_at s at → h ≡ big_endian s (at + 9) 8 → l ≡ big_endian s (at + 17) 8
+      → p ≡ port_at s at → r ≡ random_at s at → b ≡ body_at s at → n ≡ room_at s at
       → ◌≡◌ {A = ServeCall}
-      (record {
-        week = w;
-        second = x;
-        sender = record { address = h * 2 ^ 64 + l; port = p };
-        random = r;
-        datagram = take (e - (at + 39)) (drop (at + 39) s);
-        room = n;
-      })
+      (record { week = w; second = x; sender = record { address = h * 2 ^ 64 + l; port = p }; random = r; datagram = b; room = n })
       (serving_at s at)
-  serve-read w x h l p r e n ew ex eh el ep er ee en = rw (body-read e ee, address_read h l eh el, ew, ex, ep, er, en)
+  serve-read w x h l p r n b ew ex eh el ep er eb en = rw (eb, address_read h l eh el, ew, ex, ep, er, en)
 
 -- THE RECORDS BEFORE INDEX at spell the calls done; those from there on, of which there are at most so many, spell the rest
 pub record Passed (s : List ℕ) (at : ℕ) (done : List Call) : Type 0 where
@@ -83,19 +51,20 @@ passed_none s = record { left = length s; enough = omega arith; calls = refl }
 
 module _ (s : List ℕ) (at : ℕ) (done : List Call) where
   -- the record at index at is whole: it is next
-  pub next-calls : (k : ℕ) → leb (next_at s at) (length s) ≡ true → length s ≤ at + k → calls_in s ≡ done ++ calls_from k s at
-      → Passed s (next_at s at) (done ++ call_at s at)
+  next-calls : (k : ℕ) → next_at s at ≤ length s → length s ≤ at + k → calls_in s ≡ done ++ calls_from k s at → Passed s (next_at s at) (done ++ call_at s at)
   unfolding calls_from
-  next-calls zero w l e = absurd (omega (arith, leb-true (next_at s at) (length s) w))
-  next-calls (suc k) w l e =
+  next-calls zero h l e = absurd (omega arith)
+  next-calls (suc k) h l e =
+      let w : leb (next_at s at) (length s) ≡ true = le-leb (next_at s at) (length s) h in
       record {
         left = k;
         enough = omega arith;
         calls = (rw w at e) ∙ sym (append_assoc done (call_at s at) (calls_from k s (next_at s at)));
       }
 
-  pub passed-next : Passed s at done → leb (next_at s at) (length s) ≡ true → Passed s (next_at s at) (done ++ call_at s at)
-  passed-next p w = next-calls p.left w p.enough p.calls
+  -- as it was found: at index i of the list u
+  pub passed-next : (u : List ℕ) (i : ℕ) → Passed s at done → (u ≡ s) × (i ≡ at) → next_at u i ≤ length u → Passed s (next_at u i) (done ++ call_at u i)
+  passed-next u i p e h = rw (e.0, e.1) (next-calls p.left (rw (e.0, e.1) at h) p.enough p.calls)
 
   -- it is not: these are all
   end-calls : (k : ℕ) → leb (next_at s at) (length s) ≡ false → calls_from k s at ≡ []
@@ -103,8 +72,10 @@ module _ (s : List ℕ) (at : ℕ) (done : List Call) where
   end-calls zero w = refl
   end-calls (suc k) w = rw w
 
-  pub passed-all : Passed s at done → leb (next_at s at) (length s) ≡ false → calls_in s ≡ done
-  passed-all p w = p.calls ∙ ap (λ (cs : List Call). done ++ cs) (end-calls p.left w) ∙ append-nil done
+  pub passed-all : Passed s at done → (next_at s at ≤ length s → ⊥) → calls_in s ≡ done
+  passed-all p h =
+      let w : leb (next_at s at) (length s) ≡ false = lt-leb (next_at s at) (length s) (omega arith) in
+      p.calls ∙ ap (λ (cs : List Call). done ++ cs) (end-calls p.left w) ∙ append-nil done
 
 -- WHAT BYTES SPELL IS IN RANGE
 abbrev pub AllSpelled : List Call → Type 0

@@ -1,4 +1,5 @@
 pub mod Spelled
+pub mod Calls
 pub mod Pin
 pub mod Answers
 pub mod Ran

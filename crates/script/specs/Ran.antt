@@ -1,5 +1,5 @@
 -- A script carried out on one table: the calls that its bytes spell, as a trace of the model's server, with demand 3 along it. Assumes nothing.
-use Rattle.std.specs.Prelude.{ℕ, ◌+◌, ◌≡◌, true, false, List, ◌∷◌, ◌++◌, map, length, leb}
+use Rattle.std.specs.Prelude.{ℕ, ◌+◌, ◌≡◌, List, ◌∷◌, ◌++◌, Option, None, Some, is_some, map, length, leb}
 use Rattle.model.specs.Lists.{flat}
 use Rattle.model.specs.Numbers.{splice}
 use Rattle.model.specs.Calls.{MakeCall}
@@ -10,7 +10,6 @@ use Rattle.claims.specs.Demand3.{Agrees, Along}
 use Rattle.claims.specs.LiveAge.{left_by}
 use Rattle.script.specs.Spelled.{calls_in}
 use Rattle.script.specs.Answers.{answer_bytes, AllFilled, answers_length}
-use Rattle.script.specs.declared.Ran.{Ran}
 
 -- CALLS CARRIED OUT on a table, from the bytes before to the bytes after; their answers stand in a lent buffer from index from up to index to
 pub record Carried (calls : List Call) (before after lent left : List ℕ) (from to : ℕ) : Type 0 where
@@ -35,12 +34,12 @@ pub record Demand3Along (before : List ℕ) (events : List Event) : Type 0 where
   -- and from the first call on, where the table agrees with a tally: a list of calls may be carried out in several scripts
   pub onward : (y : Tally) → Agrees before y → Along (length before) y events
 
--- WHAT RUNNING A SCRIPT DOES
-pub record Runs (script before after lent left : List ℕ) (r : Ran) : Type 0 where
+-- WHAT RUNNING A SCRIPT DOES: how many bytes the answers take, or nothing
+pub record Runs (script before after lent left : List ℕ) (r : Option ℕ) : Type 0 where
   -- it is carried out exactly if the answers fit the lent buffer
-  pub fits : r.done ≡ leb (answers_length (calls_in script)) (length lent)
+  pub fits : is_some r ≡ leb (answers_length (calls_in script)) (length lent)
   -- otherwise nothing is done: table and buffer keep every byte
-  pub kept : r.done ≡ false → (after ≡ before) × (left ≡ lent) × (r.length ≡ 0)
+  pub kept : r ≡ None → (after ≡ before) × (left ≡ lent)
   -- the calls that its bytes spell
-  pub carried : r.done ≡ true → Carried (calls_in script) before after lent left 0 r.length
-  pub demand3 : (d : r.done ≡ true) → Demand3Along before (carried d).events
+  pub carried : (n : ℕ) → r ≡ Some n → Carried (calls_in script) before after lent left 0 n
+  pub demand3 : (n : ℕ) (d : r ≡ Some n) → Demand3Along before (carried n d).events

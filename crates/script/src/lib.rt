@@ -2,13 +2,16 @@
 // The contract of `run` is demand 3 of running code: specs/Ran.
 #![tactic(auto)]
 
-ghost use Rattle.std.specs.Prelude.{◌≡◌, ◌∷◌, [], ◌+◌, ◌*◌, ◌%◌, ◌<◌, ◌≤◌, length, replicate, leb};
+ghost use Rattle.std.specs.Prelude.{◌≡◌, ◌∷◌, [], ◌+◌, ◌*◌, ◌%◌, ◌<◌, ◌≤◌, ◌↔◌, length, replicate, leb, IsSome, IfSome};
 ghost use Rattle.model.specs.Numbers.{encode, splice};
-ghost use Rattle.model.specs.Meets.{ServeMeets};
-ghost use Rattle.claims.specs.Tally.{making, ticking, serving};
-ghost use Rattle.script.specs.Spelled.{next_at, room_at, making_at, ticking_at, serving_at, call_at, calls_in};
+ghost use Rattle.model.specs.Meets.{MakeMeets, TickMeets, ServeMeets};
+ghost use Rattle.script.specs.Spelled.{kind_at, week_at, second_at, room_at, body_at, next_at, making_at, ticking_at, serving_at, call_at, calls_in};
+ghost use Rattle.script.specs.Calls.{spelled_as};
 ghost use Rattle.script.specs.Answers.{sum_of, answers_length};
+ghost use Rattle.llq.specs.Refused.{number_in, count_in};
 ghost use Rattle.script.specs.Ran.{Carried, Runs};
+
+use llq::Refusal;
 
 // A record's head, with the places of its fields; its body follows.
 pub const HEAD: usize = 39;
@@ -32,59 +35,106 @@ const SIZE_AT: usize = 37;
 // The three numbers of an answer, before the reply buffer.
 pub const NUMBERS: usize = 12;
 
-// Whether the script was carried out, and how many bytes its answers take in the lent buffer.
-#[derive(Clone, Copy)]
-pub struct Ran {
-    pub done: bool,
-    pub length: usize,
-}
-
 // RECORDS
 
-// The record at index at is whole.
-pub fn whole(s: &[u8], at: usize) -> bool
-    requires { at ≤ length s.now }
-    ensures { result ≡ leb (next_at s.now at) (length s.now) }
-{
-    let left = s.len() - at;
-    if left < HEAD {
-        return false;
-    }
-    octets::get16(s, at + SIZE_AT) as usize <= left - HEAD
+// The call that a record spells.
+#[derive(Clone, Copy, PartialEq, Eq)]
+pub enum Call {
+    Make,
+    Tick,
+    Serve,
 }
 
-// Where the record at index at ends.
-pub fn next(s: &[u8], at: usize) -> usize
-    requires { next_at s.now at ≤ length s.now }
-    ensures { result ≡ next_at s.now at }
-{
-    at + HEAD + octets::get16(s, at + SIZE_AT) as usize
+// A whole record: the list that it lies in, and where it starts there.
+#[derive(Clone, Copy)]
+pub struct Record<'a> {
+    pub list: &'a [u8],
+    pub at: usize,
+    ghost whole: { next_at list.now at ≤ length list.now },
 }
 
-// A making's length of the table, a datagram's of the reply buffer, or a number that another kind has there.
-pub fn room(s: &[u8], at: usize) -> u16
-    requires { next_at s.now at ≤ length s.now }
-    ensures { result ≡ room_at s.now at }
-{
-    octets::get16(s, at + ROOM_AT)
-}
+impl<'a> Record<'a> {
+    // The record at index at, if it is whole.
+    pub fn at(list: &'a [u8], at: usize) -> Option<Record<'a>>
+        requires { at ≤ length list.now }
+        ensures whole { IsSome result ↔ (next_at list.now at ≤ length list.now) }
+        ensures placed { IfSome result (λ r. (r.list.now ≡ list.now) × (r.at ≡ at)) }
+    {
+        let left = list.len() - at;
+        if left < HEAD {
+            return None;
+        }
+        if usize::from(octets::get16(list, at + SIZE_AT)) > left - HEAD {
+            return None;
+        }
+        Some(Record { list, at })
+    }
 
-// How many bytes its answer takes: none if it is no call.
-pub fn answer_length(s: &[u8], at: usize) -> usize
-    requires { next_at s.now at ≤ length s.now }
-    ensures { result ≡ answers_length (call_at s.now at) }
-{
-    let kind = s[at];
-    if kind == b'M' {
-        return NUMBERS;
+    // What the record is, as its first byte says.
+    pub fn kind(self) -> u8
+        ensures { result ≡ kind_at self.entry.list.now self.entry.at }
+    {
+        self.list[self.at]
     }
-    if kind == b'T' {
-        return NUMBERS;
+
+    // Its call, if it is one.
+    #[tactic(auto, unfolding(crate::specs::Spelled::call_at))]
+    pub fn call(self) -> Option<Call>
+        ensures { call_at self.entry.list.now self.entry.at ≡ spelled_as result self.entry.list.now self.entry.at }
+    {
+        match self.kind() {
+            b'M' => Some(Call::Make),
+            b'T' => Some(Call::Tick),
+            b'S' => Some(Call::Serve),
+            _ => None,
+        }
     }
-    if kind == b'S' {
-        return NUMBERS + room(s, at) as usize;
+
+    pub fn week(self) -> u32
+        ensures { result ≡ week_at self.entry.list.now self.entry.at }
+    {
+        octets::get32(self.list, self.at + WEEK_AT)
     }
-    0
+
+    pub fn second(self) -> u32
+        ensures { result ≡ second_at self.entry.list.now self.entry.at }
+    {
+        octets::get32(self.list, self.at + SECOND_AT)
+    }
+
+    // A making's length of the table, a datagram's of the reply buffer, or a number that another kind has there.
+    pub fn room(self) -> u16
+        ensures { result ≡ room_at self.entry.list.now self.entry.at }
+    {
+        octets::get16(self.list, self.at + ROOM_AT)
+    }
+
+    // A making's roster, or a datagram.
+    pub fn body(self) -> &'a [u8]
+        ensures { result.now ≡ body_at self.entry.list.now self.entry.at }
+    {
+        &self.list[self.at + HEAD..self.next()]
+    }
+
+    // Where it ends.
+    pub fn next(self) -> usize
+        ensures { result ≡ next_at self.entry.list.now self.entry.at }
+    {
+        self.at + HEAD + usize::from(octets::get16(self.list, self.at + SIZE_AT))
+    }
+
+    // How many bytes its answer takes: none if it is no call.
+    #[tactic(auto, unfolding(crate::specs::Answers::answers_length))]
+    pub fn answer_length(self) -> usize
+        ensures { result ≡ answers_length (call_at self.entry.list.now self.entry.at) }
+    {
+        match self.call() {
+            Some(Call::Make) => NUMBERS,
+            Some(Call::Tick) => NUMBERS,
+            Some(Call::Serve) => NUMBERS + usize::from(self.room()),
+            None => 0,
+        }
+    }
 }
 
 // The answers of the whole script fit in a buffer of so many bytes.
@@ -93,35 +143,26 @@ fn fits(s: &[u8], size: usize) -> bool
 {
     let mut left = size;
     let mut at: usize = 0;
-    while whole(s, at) {
-        let n = answer_length(s, at);
+    while let Some(record) = Record::at(s, at) {
+        let n = record.answer_length();
         if left < n {
             return false;
         }
         left -= n;
-        at = next(s, at);
+        at = record.next();
     }
     true
 }
 
 // ANSWERS
 
-// The sum with one byte more.
-fn more(c: u64, b: u8) -> u64
-    requires { c < 4294967291 }
-    ensures { result ≡ (c * 257 + b) % 4294967291 }
-{
-    (c * 257 + b as u64) % 4294967291
-}
-
+// A table's sum, byte by byte.
 fn sum(t: &[u8]) -> u32
     ensures { result ≡ sum_of t.now }
 {
     let mut c: u64 = 0;
-    let mut i: usize = 0;
-    while i < t.len() {
-        c = more(c, t[i]);
-        i += 1;
+    for &b in t {
+        c = (c * 257 + u64::from(b)) % 4294967291;
     }
     c as u32
 }
@@ -136,96 +177,57 @@ fn put_numbers(out: &mut [u8], at: usize, number: u32, count: u32, sum: u32)
     octets::put32(out, at + 8, sum);
 }
 
-// A reply buffer as it is lent.
-fn fill(reply: &mut [u8])
-    ensures { reply.new ≡ replicate (length reply.old) 170 }
+// CALLS
+
+fn make(r: Record, t: &mut [u8]) -> Result<u32, Refusal>
+    ensures { MakeMeets (making_at r.entry.list.now r.entry.at) t.old t.new (number_in result) × (count_in result ≡ 0) }
 {
-    let mut i: usize = 0;
-    while i < reply.len() {
-        reply[i] = 0xAA;
-        i += 1;
-    }
+    llq::llq_make(r.week(), r.second(), t, r.body())?;
+    Ok(0)
 }
 
-// CALLS, each on the record at index at, with the answer written at index to
-
-fn make(s: &[u8], at: usize, t: &mut [u8], out: &mut [u8], to: usize) -> usize
-    requires { (next_at s.now at ≤ length s.now) × (to + 12 ≤ length out.old) }
-    ensures { Carried (making (making_at s.now at) ∷ []) t.old t.new out.old out.new to result }
+fn tick(r: Record, t: &mut [u8]) -> Result<u32, Refusal>
+    ensures { TickMeets (ticking_at r.entry.list.now r.entry.at) t.old t.new (number_in result) (count_in result) }
 {
-    let body = at + HEAD;
-    let end = next(s, at);
-    let number = llq::llq_make(
-        octets::get32(s, at + WEEK_AT),
-        octets::get32(s, at + SECOND_AT),
-        t,
-        &s[body..end],
-    );
-    put_numbers(out, to, number, 0, sum(t));
-    to + NUMBERS
-}
-
-fn tick(s: &[u8], at: usize, t: &mut [u8], out: &mut [u8], to: usize) -> usize
-    requires { (next_at s.now at ≤ length s.now) × (to + 12 ≤ length out.old) }
-    ensures { Carried (ticking (ticking_at s.now at) ∷ []) t.old t.new out.old out.new to result }
-{
-    let r = llq::llq_tick(
-        octets::get32(s, at + WEEK_AT),
-        octets::get32(s, at + SECOND_AT),
-        t,
-    );
-    put_numbers(out, to, r.number, r.freed, sum(t));
-    to + NUMBERS
+    llq::llq_tick(r.week(), r.second(), t)
 }
 
 // A datagram served into a reply buffer, which is filled first.
-fn serve_into(s: &[u8], at: usize, t: &mut [u8], reply: &mut [u8]) -> llq::Served
-    requires { (next_at s.now at ≤ length s.now) × (length reply.old ≡ room_at s.now at) }
-    ensures { ServeMeets (serving_at s.now at) t.old t.new (replicate (room_at s.now at) 170) reply.new result.number result.length }
+fn serve(r: Record, t: &mut [u8], reply: &mut [u8]) -> Result<u32, Refusal>
+    requires { length reply.old ≡ room_at r.list.now r.at }
+    ensures { ServeMeets (serving_at r.entry.list.now r.entry.at) t.old t.new (replicate (room_at r.entry.list.now r.entry.at) 170) reply.new (number_in result) (count_in result) }
 {
-    let body = at + HEAD;
-    let end = next(s, at);
-    fill(reply);
+    reply.fill(0xAA);
     llq::llq_serve(
-        octets::get32(s, at + WEEK_AT),
-        octets::get32(s, at + SECOND_AT),
-        octets::get64(s, at + HIGH_AT),
-        octets::get64(s, at + LOW_AT),
-        octets::get16(s, at + PORT_AT),
-        octets::get64(s, at + RANDOM_AT),
-        &s[body..end],
+        r.week(),
+        r.second(),
+        octets::get64(r.list, r.at + HIGH_AT),
+        octets::get64(r.list, r.at + LOW_AT),
+        octets::get16(r.list, r.at + PORT_AT),
+        octets::get64(r.list, r.at + RANDOM_AT),
+        r.body(),
         t,
         reply,
     )
 }
 
-fn serve(s: &[u8], at: usize, t: &mut [u8], out: &mut [u8], to: usize) -> usize
-    requires { (next_at s.now at ≤ length s.now) × (to + 12 + room_at s.now at ≤ length out.old) }
-    ensures { Carried (serving (serving_at s.now at) ∷ []) t.old t.new out.old out.new to result }
+// The record's call, if it is one, with its answer written at index to. Returns where the next answer goes.
+fn carry_out(r: Record, t: &mut [u8], out: &mut [u8], to: usize) -> usize
+    requires { to + answers_length (call_at r.list.now r.at) ≤ length out.old }
+    ensures { Carried (call_at r.entry.list.now r.entry.at) t.old t.new out.old out.new to result }
 {
-    let first = to + NUMBERS;
-    let last = first + room(s, at) as usize;
-    let r = serve_into(s, at, t, &mut out[first..last]);
-    put_numbers(out, to, r.number, r.length, sum(t));
-    last
-}
-
-// The record's call, if it is one. Returns where the next answer goes.
-fn call(s: &[u8], at: usize, t: &mut [u8], out: &mut [u8], to: usize) -> usize
-    requires { (next_at s.now at ≤ length s.now) × (to + answers_length (call_at s.now at) ≤ length out.old) }
-    ensures { Carried (call_at s.now at) t.old t.new out.old out.new to result }
-{
-    let kind = s[at];
-    if kind == b'M' {
-        return make(s, at, t, out, to);
-    }
-    if kind == b'T' {
-        return tick(s, at, t, out, to);
-    }
-    if kind == b'S' {
-        return serve(s, at, t, out, to);
-    }
-    to
+    let Some(call) = r.call() else {
+        return to;
+    };
+    let end = to + r.answer_length();
+    let result = match call {
+        Call::Make => make(r, t),
+        Call::Tick => tick(r, t),
+        Call::Serve => serve(r, t, &mut out[to + NUMBERS..end]),
+    };
+    let (number, count) = llq::numbers(result);
+    put_numbers(out, to, number, count, sum(t));
+    end
 }
 
 // All records in order, each on the table as the one before it left it. Returns how many bytes the answers took.
@@ -235,25 +237,20 @@ fn each(s: &[u8], t: &mut [u8], out: &mut [u8]) -> usize
 {
     let mut at: usize = 0;
     let mut to: usize = 0;
-    while whole(s, at) {
-        to = call(s, at, t, out, to);
-        at = next(s, at);
+    while let Some(record) = Record::at(s, at) {
+        to = carry_out(record, t, out, to);
+        at = record.next();
     }
     to
 }
 
-// Nothing is done if the answers do not fit.
-pub fn run(script: &[u8], t: &mut [u8], out: &mut [u8]) -> Ran
+// How many bytes the answers take in the lent buffer. Nothing is done if they do not fit.
+pub fn run(script: &[u8], t: &mut [u8], out: &mut [u8]) -> Option<usize>
     ensures { Runs script.now t.old t.new out.old out.new result }
 {
-    if !fits(script, out.len()) {
-        return Ran {
-            done: false,
-            length: 0,
-        };
-    }
-    Ran {
-        done: true,
-        length: each(script, t, out),
+    if fits(script, out.len()) {
+        Some(each(script, t, out))
+    } else {
+        None
     }
 }

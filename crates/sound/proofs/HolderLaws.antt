@@ -6,21 +6,19 @@ use mathlib.Core.Bool.{Bool, true, false, not, cond, ◌&&◌, and_assoc}
 use mathlib.Core.List.{List}
 use lib.ListN.{length, get_or}
 use lib.Dec.{eqb, leb}
-use borrow.Author.Tests.{eqb-true, le-leb, lt-leb}
+use borrow.Author.Tests.{eqb-true, lt-leb}
 use Rattle.model.specs.Lists.{count, any, every, no_two}
 use Rattle.model.specs.Table.{Line, listed}
 use Rattle.model.specs.Rules.{Holding, numbered, held_by, limit_of, reserve}
-use Rattle.model.specs.Sound.{valid_line, valid_entry, same_number, same_question, sound_roster, sound_holdings}
+use Rattle.model.specs.Sound.{valid_entry, same_number, same_question, sound_roster, sound_holdings}
 use Rattle.model.specs.Calls.{good_roster, roster_count}
-use Rattle.model.proofs.ListLaws.{never, and_left, and_right, swap, every-not}
+use Rattle.model.proofs.ListLaws.{never, and_left, and_right, swap}
 use Rattle.layout.specs.Shape.{in_use, lines_to, parts_shape}
 use Rattle.layout.specs.Held.{holding_at, held_to, ok_at, within, rules_of}
 use Rattle.sound.specs.Holders.{holder_sound, holders_sound, entries_sound}
 use Rattle.layout.proofs.HeldLaws.{two-next, two-yes, two-no, grows-no}
 use Rattle.layout.proofs.AgeLaws.{held-count, held-numbers, held-questions, held-reserve, held-within}
-use Rattle.layout.proofs.LineLaws.{limit-min}
 use Rattle.layout.proofs.LimitLaws.{within-next}
-use Rattle.sound.proofs.PairLaws.{none-asks}
 
 module _ (b : List ℕ) (ls : List Line) where
   both : (i : ℕ) (p q : Holding → Bool) → ok_at 0 b (λ k. p k && q k) i ≡ ok_at 0 b p i && ok_at 0 b q i
@@ -31,17 +29,12 @@ module _ (b : List ℕ) (ls : List Line) where
       go true = refl
       go false = refl
 
-  fits_next : (i : ℕ) → holders_sound b ls (i + 1) ≡ holders_sound b ls i && ok_at 0 b (holder_sound b ls i) i
+  pub fits_next : (i : ℕ) → holders_sound b ls (i + 1) ≡ holders_sound b ls i && ok_at 0 b (holder_sound b ls i) i
   fits_next i =
       let p : Holding → Bool = λ k. every (λ h. not (same_question h k)) (held_to 0 b i) in
       let q : Holding → Bool = λ k. leb (count (held_to 0 b i) (held_by k.address) + 1) (limit_of ls k.address) in
       rw (two-next 0 b i same_question, within-next ls 0 b i, both i p q)
       (swap (no_two same_question (held_to 0 b i)) (ok_at 0 b p i) (every (within ls (held_to 0 b i)) (held_to 0 b i)) (ok_at 0 b q i))
-
--- a holding whose address has none below slot i
-pub fits-none : (b : List ℕ) (ls : List Line) (i : ℕ) (k : Holding) → every valid_line ls ≡ true → every (λ h. not (held_by k.address h)) (held_to 0 b i) ≡ true
-    → holder_sound b ls i k ≡ true
-fits-none b ls i k v n = rw (none-asks k (held_to 0 b i) n, every-not (held_by k.address) (held_to 0 b i) n) (le-leb 1 (limit_of ls k.address) (limit-min ls k.address v))
 
 -- slot i has an entry
 module _ (b : List ℕ) (i : ℕ) (held : in_use (get_or b (320 * i) 0) ≡ true) where

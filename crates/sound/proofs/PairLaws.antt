@@ -11,7 +11,7 @@ use Rattle.model.proofs.ListLaws.{and_left, none_of}
 use Rattle.record.specs.Asked.{same_asked}
 
 -- u: the slot is in use; v: its entry passes
-unless : (u v : Bool) → cond u (not v) true ≡ not (u && v)
+pub unless : (u v : Bool) → cond u (not v) true ≡ not (u && v)
 unless true v = refl
 unless false v = refl
 

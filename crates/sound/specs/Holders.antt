@@ -1,5 +1,5 @@
 -- What the pass over the holders tests, slot by slot; no age is seen. Assumes nothing.
-use Rattle.std.specs.Prelude.{ℕ, ◌+◌, Bool, not, cond, ◌&&◌, List, leb}
+use Rattle.std.specs.Prelude.{ℕ, ◌+◌, Bool, true, false, not, cond, ◌&&◌, List, leb, Option, Some, None}
 use Rattle.model.specs.Lists.{count, any, every, no_two}
 use Rattle.model.specs.Table.{Line}
 use Rattle.model.specs.Rules.{Holding, numbered, held_by, limit_of, share_of, reserve}
@@ -14,16 +14,16 @@ holder_sound b ls i k = every (λ h. not (same_question h k)) (held_to 0 b i) &&
 abbrev pub holders_sound : List ℕ → List Line → ℕ → Bool
 holders_sound b ls i = no_two same_question (held_to 0 b i) && every (within ls (held_to 0 b i)) (held_to 0 b i)
 
--- How many slots beyond its share one holding more takes for an address that has k: none below the share, one from there on; 2, which is too many,
--- where the address is at its limit.
-abbrev pub beyond_share : ℕ → ℕ → ℕ → ℕ
-beyond_share share limit k = cond (leb (k + 1) share) 0 (cond (leb (k + 1) limit) 1 2)
+-- Whether one holding more takes a slot beyond its share, for an address that has k: not below the share, and one from there on; at its limit the
+-- address takes none.
+abbrev pub beyond_share : ℕ → ℕ → ℕ → Option Bool
+beyond_share share limit k = cond (leb (k + 1) share) (Some false) (cond (leb (k + 1) limit) (Some true) None)
 
--- the same of a holding, with those below slot i; 2 also where one of them has its number, or its address and question
-abbrev pub entry_beyond_share : List ℕ → List Line → ℕ → Holding → ℕ
+-- the same of a holding, with those below slot i; none also where one of them has its number, or its address and question
+abbrev pub entry_beyond_share : List ℕ → List Line → ℕ → Holding → Option Bool
 entry_beyond_share b ls i k =
     cond (every (λ h. not (numbered k.number h)) (held_to 0 b i) && every (λ h. not (same_question h k)) (held_to 0 b i))
-    (beyond_share (share_of ls k.address) (limit_of ls k.address) (count (held_to 0 b i) (held_by k.address))) 2
+    (beyond_share (share_of ls k.address) (limit_of ls k.address) (count (held_to 0 b i) (held_by k.address))) None
 
 -- the rules of entries that two of them, or they and the roster, have to meet, with n slots
 abbrev pub entries_sound : List ℕ → List Line → ℕ → Bool

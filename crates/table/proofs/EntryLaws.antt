@@ -26,9 +26,9 @@ bytes-add j (suc k) x y h =
     let m : (x * 256 ^ k * 256 + y) % 256 ≡ y % 256 = omega arith in
     rw (add-suc, pow-suc, p, d, m, bytes-add j k x (y / 256) (omega arith), append_assoc)
 
-pub halves-written : (e : Entry) → e.low < 2 ^ 64 → encode (holder_halves e) ≡ encode (holder_fields e)
+pub halves-written : (e : Entry) → e.sender.address.low < 2 ^ 64 → encode (holder_halves e) ≡ encode (holder_fields e)
 unfolding encode
-halves-written e h = rw (bytes-add 8 8 e.high e.low h, append_assoc)
+halves-written e h = rw (bytes-add 8 8 e.sender.address.high e.sender.address.low h, append_assoc)
 
 -- a name that d has whole keeps its length when it is folded
 pub folded-length : (d : List ℕ) (at len : ℕ) → at + len ≤ length d → length (map fold (part at len d)) ≡ len

@@ -2,17 +2,17 @@
 use Rattle.std.specs.Prelude.{ℕ, ◌-◌, Bool, List, [], ◌∷◌, ◌++◌, length, replicate}
 use Rattle.model.specs.Numbers.{bytes_of, encode}
 use Rattle.model.specs.Table as table
+use Rattle.record.specs.Address.{address_of}
 use Rattle.record.specs.State.{kind_byte}
 use Rattle.entries.specs.declared.Entry.{Entry}
-use Rattle.entries.specs.Reads.{address_of}
 
 -- kind, address, port and number
 abbrev pub holder_fields : Entry → List (ℕ × ℕ)
-holder_fields e = (1, kind_byte e.state) ∷ (16, address_of e.high e.low) ∷ (2, e.port) ∷ (8, e.number.0) ∷ []
+holder_fields e = (1, kind_byte e.state) ∷ (16, address_of e.sender.address) ∷ (2, e.sender.port) ∷ (8, e.number.0) ∷ []
 
 -- as the code writes them: the address in two halves
 abbrev pub holder_halves : Entry → List (ℕ × ℕ)
-holder_halves e = (1, kind_byte e.state) ∷ (8, e.high) ∷ (8, e.low) ∷ (2, e.port) ∷ (8, e.number.0) ∷ []
+holder_halves e = (1, kind_byte e.state) ∷ (8, e.sender.address.high) ∷ (8, e.sender.address.low) ∷ (2, e.sender.port) ∷ (8, e.number.0) ∷ []
 
 -- lease, stamp, type and class
 abbrev pub lease_fields : Entry → List (ℕ × ℕ)
@@ -31,8 +31,8 @@ abbrev pub stored_as : Bool → Entry → List ℕ → table.Entry
 stored_as established e name =
     record {
       established = established;
-      address = address_of e.high e.low;
-      port = e.port;
+      address = address_of e.sender.address;
+      port = e.sender.port;
       number = e.number.0;
       lease = e.lease;
       stamp = e.stamp;

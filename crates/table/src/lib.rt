@@ -1,9 +1,9 @@
-// Changes of a table in place: a slot written, the clock moved and run-out entries freed, a table made. `slots` and `lines` are the parts that start with the first of them.
+// Changes of a table in place: a slot written, the clock moved and run-out entries freed, a table made. `slots` and `lines` are the parts that start with the first of them: they are lent to be written, and so are no `Slots` and no `Lines`, which are read.
 #![tactic(auto)]
 
 ghost use Rattle.std.specs.Prelude.{◌≡◌, true, ◌∷◌, [], map, ◌+◌, ◌-◌, ◌*◌, ◌<◌, ◌≤◌, length};
 ghost use Rattle.model.specs.Lists.{count, flat};
-ghost use Rattle.model.specs.Numbers.{bytes_of, part, splice, encode};
+ghost use Rattle.model.specs.Numbers.{Bytes, bytes_of, part, splice, encode};
 ghost use Rattle.model.specs.Names.{fold};
 ghost use Rattle.model.specs.Clock.{cycle_of};
 ghost use Rattle.model.specs.Table.{kind_of, size_of, read_table, table_bytes, slot_bytes, unused_line};
@@ -18,8 +18,8 @@ ghost use Rattle.table.specs.Fresh.{unused_lines, free_slots, fresh};
 
 use clock::Clock;
 use entries::Entry;
-use layout::Layout;
-use record::State;
+use layout::{Kind, Layout};
+use record::Slot;
 
 // WRITERS OF A SLOT
 
@@ -29,22 +29,21 @@ pub fn end_entry(slots: &mut [u8], i: usize)
     ensures { slots.new ≡ splice (320 * i) 320 (slot_bytes ended) slots.old }
 {
     let a = layout::SLOT * i;
-    octets::put8(slots, a, record::kind_byte(State::Free));
+    octets::put8(slots, a, Kind::Free as u8);
     octets::clear(slots, a + 1, layout::SLOT_BODY);
 }
 
-// Kind, address, port and number.
+// Kind, address, port and number. That s is one slot's bytes is a clause here and in the three below: a part of a lent slice is a slice, not an array.
 fn put_holder_fields(s: &mut [u8], e: Entry)
     requires { length s.old ≡ 320 }
     ensures { s.new ≡ splice 0 27 (encode (holder_fields e)) s.old }
 {
-    let state = e.state;
-    let number = e.number;
-    octets::put8(s, 0, record::kind_byte(state));
-    octets::put64(s, layout::ADDRESS_AT, e.high);
-    octets::put64(s, layout::LOW_AT, e.low);
-    octets::put16(s, layout::PORT_AT, e.port);
-    octets::put64(s, layout::NUMBER_AT, number.0);
+    let address = e.sender.address;
+    octets::put8(s, 0, u8::from(e.state));
+    octets::put64(s, layout::ADDRESS_AT, address.high);
+    octets::put64(s, layout::LOW_AT, address.low);
+    octets::put16(s, layout::PORT_AT, e.sender.port);
+    octets::put64(s, layout::NUMBER_AT, e.number.0);
 }
 
 // Lease, stamp, type, class.
@@ -63,7 +62,7 @@ fn put_name(s: &mut [u8], len: u8, d: &[u8], at: usize)
     requires { (length s.old ≡ 320) × (at + len ≤ length d.now) }
     ensures { s.new ≡ splice 39 281 (name_bytes (map fold (part at len d.now))) s.old }
 {
-    let n = len as usize;
+    let n = usize::from(len);
     octets::put8(s, layout::NAME_LENGTH_AT, len);
     names::copy_folded(s, layout::NAME_AT, d, at, n);
     octets::clear(s, layout::NAME_AT + n, layout::NAME_ROOM - n);
@@ -82,11 +81,11 @@ fn put_slot(s: &mut [u8], e: Entry, d: &[u8], at: usize)
 // An entry is stored in slot i, with the name that d has at a place, folded.
 pub fn put_entry(slots: &mut [u8], i: usize, e: Entry, d: &[u8], at: usize)
     requires { (320 * (i + 1) ≤ length slots.old) × (at + e.len ≤ length d.now) }
-    ensures { slots.new ≡ splice (320 * i) 320 (entry_bytes e (map fold (part at e.len d.now))) slots.old }
+    ensures stored { slots.new ≡ splice (320 * i) 320 (entry_bytes e (map fold (part at e.len d.now))) slots.old }
+    ensures name_in_bytes { Bytes (map fold (part at e.len d.now)) }
 {
     let a = layout::SLOT * i;
-    let z = a + layout::SLOT;
-    put_slot(&mut slots[a..z], e, d, at)
+    put_slot(&mut slots[a..a + layout::SLOT], e, d, at)
 }
 
 // The entry of slot i is established: its state alone.
@@ -95,7 +94,7 @@ pub fn establish_at(slots: &mut [u8], i: usize)
     ensures { slots.new ≡ splice (320 * i) 1 (bytes_of 1 (kind_of true)) slots.old }
 {
     let a = layout::SLOT * i;
-    octets::put8(slots, a, record::kind_byte(State::Established))
+    octets::put8(slots, a, Kind::Established as u8)
 }
 
 // The entry of slot i gets a lease and a stamp.
@@ -115,16 +114,18 @@ fn free_run_out(slots: &mut [u8], n: usize, running: u32) -> usize
     requires { (320 * n ≤ length slots.old) × FormedSlots slots.old n }
     ensures { (slots.new ≡ flat slot_bytes (map (free_if_run_out running) (slots_to slots.old n))) × (result ≡ count (slots_to slots.old n) (slot_run_out running)) }
 {
-    let mut k: usize = 0;
-    let mut i = 0;
-    while i < n {
-        if entries::run_out(slots, i, running) {
+    let mut freed = 0;
+    for i in 0..n {
+        let slot = Slot {
+            bytes: slots,
+            at: layout::SLOT * i,
+        };
+        if entries::run_out(slot, running) {
             end_entry(slots, i);
-            k += 1;
+            freed += 1;
         }
-        i += 1;
     }
-    k
+    freed
 }
 
 // The clock is moved on to a place, then run-out entries end. Returns how many there were. No entry had run out before: while the count stays, none does.
@@ -132,15 +133,13 @@ pub fn move_on(t: &mut [u8], l: Layout, place: u64) -> usize
     requires { WellFormed t.old × LayoutFor l (length t.old) × ((read_table t.old).clock.place < cycle_of (weeks_of l.weeks)) × (place < cycle_of (weeks_of l.weeks)) × (count (read_table t.old).slots (slot_run_out (read_table t.old).clock.running) ≡ 0) }
     ensures { Written t.new (moved_on (read_table t.old) place) × (result ≡ freed_by (read_table t.old) place) }
 {
-    let weeks = l.weeks;
     let c = record::clock_at(t, l);
-    let d = clock::advanced(c, weeks, place);
+    let d = clock::advanced(c, l.weeks, place);
     record::put_clock(t, l, d);
     if d.running == c.running {
         return 0;
     }
-    let a = l.slots_at as usize;
-    free_run_out(&mut t[a..], l.n, d.running)
+    free_run_out(&mut t[l.slots_at as usize..], l.n, d.running)
 }
 
 // MAKING
@@ -151,7 +150,7 @@ fn clear_line(lines: &mut [u8], i: usize)
     ensures { lines.new ≡ splice (19 * i) 19 unused_line lines.old }
 {
     let a = layout::LINE * i;
-    octets::put8(lines, a, layout::UNUSED_KIND);
+    octets::put8(lines, a, Kind::Unused as u8);
     octets::clear(lines, a + 1, layout::LINE_BODY);
 }
 
@@ -160,10 +159,8 @@ fn clear_lines(lines: &mut [u8], m: usize)
     requires { (m ≤ 16) × (304 ≤ length lines.old) }
     ensures { lines.new ≡ splice (19 * m) (19 * (16 - m)) (unused_lines (16 - m)) lines.old }
 {
-    let mut k = 0;
-    while k < layout::LINES - m {
-        clear_line(lines, m + k);
-        k += 1;
+    for i in m..layout::LINES {
+        clear_line(lines, i);
     }
 }
 
@@ -172,10 +169,8 @@ fn clear_slots(slots: &mut [u8], n: usize)
     requires { 320 * n ≤ length slots.old }
     ensures { slots.new ≡ splice 0 (320 * n) (free_slots n) slots.old }
 {
-    let mut i = 0;
-    while i < n {
+    for i in 0..n {
         end_entry(slots, i);
-        i += 1;
     }
 }
 
@@ -185,12 +180,10 @@ pub fn make_fresh(t: &mut [u8], l: Layout, place: u64, roster: &[u8])
     ensures { t.new ≡ table_bytes (fresh (layout_in l) place roster.now l.n) }
 {
     let k = roster.len();
-    let weeks = l.weeks;
     let a = l.lines_at as usize;
-    let z = l.slots_at as usize;
-    octets::put8(t, 0, layout::clock_kind(weeks));
+    octets::put8(t, 0, layout::clock_kind(l.weeks));
     record::put_clock(t, l, Clock { place, running: 0 });
     octets::copy(t, a, roster, 0, k);
     clear_lines(&mut t[a..], k / layout::LINE);
-    clear_slots(&mut t[z..], l.n);
+    clear_slots(&mut t[l.slots_at as usize..], l.n);
 }

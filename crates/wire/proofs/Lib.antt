@@ -1,4 +1,3 @@
-pub mod Choice
 pub mod Pad
 pub mod Names
 pub mod Reading

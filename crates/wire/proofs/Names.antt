@@ -1,6 +1,6 @@
 -- Laws of the name at a place, by which a loop over its labels goes. Assumes nothing.
 use Prim.Native.Nat.{ℕ, zero, suc, ◌+◌, ◌-◌, ◌≤◌, ◌<◌}
-use mathlib.Core.Path.{◌≡◌, refl, ap, subst, ◌∙◌}
+use mathlib.Core.Path.{◌≡◌, refl, sym, ap, subst, ◌∙◌}
 use mathlib.Core.List.{List, [], ◌∷◌}
 use mathlib.Core.Bool.{cond}
 use mathlib.Core.Logic.{◌⊎◌, inl, inr, ⊎_elim}
@@ -10,17 +10,15 @@ use lib.ListN.{length, get_or, drop}
 use lib.Seq.{drop-cons, drop-drop}
 use lib.Dec.{eqb, ltb}
 use borrow.Author.Tests.{le-leb, lt-leb, ltb-true, ltb-false}
+use Rattle.std.specs.Prelude.{Option, Some, None}
 use Rattle.model.specs.Names.{name_size}
 use Rattle.model.specs.Query.{name_at}
 use Rattle.model.proofs.NameLaws.{size-stop, name-bounds}
-use Rattle.wire.specs.Read.{cursor, read_byte, label_of, read_label, named, read_name}
+use Rattle.wire.specs.Read.{cursor, label_of, read_label, named, read_name}
 use Rattle.wire.specs.declared.Cursor.{Cursor}
-use Rattle.wire.specs.declared.ByteRead.{ByteRead}
-use Rattle.wire.specs.declared.ByteRead.TheVariants as byte
-use Rattle.wire.specs.declared.LabelRead.{LabelRead}
-use Rattle.wire.specs.declared.LabelRead.TheVariants as label
-use Rattle.wire.specs.declared.NameRead.TheVariants as name
-use Rattle.wire.proofs.Choice.{cond-when}
+use Rattle.wire.specs.declared.Label.{Label}
+use Rattle.wire.specs.declared.Label.TheVariants as label
+use Rattle.std.proofs.lemmas.Bool.{cond_both}
 
 pub size-skip : (k n : ℕ) (s : List ℕ) → name_size k n s ≡ name_size 0 (n + k) (drop k s)
 unfolding name_size
@@ -39,33 +37,22 @@ size_step s p n h =
     ∙ ap (λ (l : List ℕ). name_size 0 (n + 1 + get_or s p 0) l)
     (drop-drop (get_or s p 0) (suc p) s ∙ ap (λ (m : ℕ). drop m s) {x = suc p + get_or s p 0} {y = p + 1 + get_or s p 0} (omega arith)))
 
--- where a byte was read, the place after it is within the bytes
-abbrev pub Within : List ℕ → ByteRead → Type 0
-Within s (byte.Byte b next) = next.at ≤ length s
-Within s byte.Short = Unit
-
-byte-is : (s : List ℕ) (at : ℕ) → Within s (read_byte s at)
-byte-is s at = cond-when (Within s) (ltb at (length s)) _ _ (λ e. let l : at < length s = ltb-true at (length s) e in omega arith) (λ e. tt)
-
-pub byte-within : (s : List ℕ) (at : ℕ) {b : ℕ} {next : Cursor} → read_byte s at ≡ byte.Byte b next → next.at ≤ length s
-byte-within s at e = subst (Within s) e (byte-is s at)
-
 -- what a label that was read at a place, n bytes behind the name's start, says of the name
-abbrev pub After : List ℕ → ℕ → ℕ → LabelRead → Type 0
-After s start at (label.Label next) =
+abbrev pub After : List ℕ → ℕ → ℕ → Option Label → Type 0
+After s start at (Some (label.Label next)) =
     (at < next.at) × (next.at ≤ at + 64) × (name_size 0 (at - start) (drop at s) ≡ name_size 0 (next.at - start) (drop next.at s))
-After s start at (label.Last next) = (next.at ≡ at + 1) × (name_size 0 (at - start) (drop at s) ≡ at - start + 1)
-After s start at label.Bad = name_size 0 (at - start) (drop at s) ≡ 0
+After s start at (Some (label.Last next)) = (next.at ≡ at + 1) × (name_size 0 (at - start) (drop at s) ≡ at - start + 1)
+After s start at None = name_size 0 (at - start) (drop at s) ≡ 0
 
 module _ (s : List ℕ) (start at : ℕ) (h : start ≤ at) where
-  step_is : at < length s → After s start at (label_of (byte.Byte (get_or s at 0) (cursor (at + 1))))
+  step_is : at < length s → After s start at (label_of (Some (get_or s at 0, cursor (at + 1))))
   step_is l =
       let q = size_step s at (at - start) l in
-      cond-when (After s start at) (eqb (get_or s at 0) 0) _ _
+      cond_both (eqb (get_or s at 0) 0) _ _ (After s start at)
       (λ e. (refl, rw e at q))
       (λ e.
       let r = rw e at q in
-      cond-when (After s start at) (ltb (get_or s at 0) 64) _ _
+      cond_both (ltb (get_or s at 0) 64) _ _ (After s start at)
       (λ f.
       let b : get_or s at 0 < 64 = ltb-true (get_or s at 0) 64 f in
       let n : at - start + 1 + get_or s at 0 ≡ at + 1 + get_or s at 0 - start = omega arith in
@@ -74,23 +61,23 @@ module _ (s : List ℕ) (start at : ℕ) (h : start ≤ at) where
 
   label_is : After s start at (read_label s at)
   label_is =
-      cond-when (λ r. After s start at (label_of r)) (ltb at (length s)) _ _
+      cond_both (ltb at (length s)) _ _ (λ r. After s start at (label_of r))
       (λ e. step_is (ltb-true at (length s) e))
       (λ e. size-stop 0 (at - start) at s (ltb-false at (length s) e))
 
-  pub after : {r : LabelRead} → read_label s at ≡ r → After s start at r
-  after e = subst (After s start at) e label_is
+  pub after : {r : Option Label} → r ≡ read_label s at → After s start at r
+  after e = subst (After s start at) (sym e) label_is
 
-pub named-bad : (at w : ℕ) → (w ≡ 0) ⊎ (255 < w) → named at w ≡ name.Bad
+pub named-bad : (at w : ℕ) → (w ≡ 0) ⊎ (255 < w) → None ≡ named at w
 named-bad at w (inl e) = rw e
 named-bad at w (inr l) = simp (le-leb 1 w (omega arith), lt-leb w 255 l)
 
 -- what the loop knows of the bytes that it passed
 module _ (s : List ℕ) (start : ℕ) (c : Cursor) (inv : name_at s start ≡ name_size 0 (c.at - start) (drop c.at s)) where
-  pub name-bad : name_size 0 (c.at - start) (drop c.at s) ≡ 0 → read_name s start ≡ name.Bad
+  pub name-bad : name_size 0 (c.at - start) (drop c.at s) ≡ 0 → None ≡ read_name s start
   name-bad z = named-bad start (name_at s start) (inl (inv ∙ z))
 
-  pub name-long : 255 ≤ c.at - start → read_name s start ≡ name.Bad
+  pub name-long : 255 ≤ c.at - start → None ≡ read_name s start
   name-long h =
       named-bad start (name_at s start)
       (⊎_elim
@@ -99,7 +86,7 @@ module _ (s : List ℕ) (start : ℕ) (c : Cursor) (inv : name_at s start ≡ na
       (eq-zero-or-pos (name_at s start)))
 
   pub name-found : (next : Cursor) → start ≤ c.at → c.at - start < 255 → next.at ≡ c.at + 1 → name_size 0 (c.at - start) (drop c.at s) ≡ c.at - start + 1
-      → read_name s start ≡ name.Name (next.at - start) next
+      → Some (next.at - start, next) ≡ read_name s start
   name-found next h l n z =
       let e : name_at s start ≡ next.at - start = inv ∙ z ∙ (let w : c.at - start + 1 ≡ next.at - start = omega arith in w) in
       let f : start + (next.at - start) ≡ next.at = omega arith in

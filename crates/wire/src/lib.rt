@@ -1,7 +1,7 @@
 // The records of a message, and a cursor that reads them: RFC 1035, RFC 6891 and RFC 8764.
 #![tactic(auto)]
 
-ghost use Rattle.std.specs.Prelude.{◌≡◌, ◌+◌, ◌≤◌, length};
+ghost use Rattle.std.specs.Prelude.{◌≡◌, ◌+◌, ◌≤◌, length, leb};
 ghost use Rattle.wire.specs.Read.{read_byte, read_number, read_header, read_label, read_name, read_question, read_opt, read_option, read_llq_option};
 
 pub mod write;
@@ -14,10 +14,10 @@ pub const OPT_LEN: usize = 11;
 pub const OPTION_LEN: usize = 22;
 
 // A message number and an LLQ number are different kinds: neither can stand for the other.
-#[derive(Clone, Copy)]
+#[derive(Clone, Copy, PartialEq, Eq)]
 pub struct MessageNumber(pub u16);
 
-#[derive(Clone, Copy)]
+#[derive(Clone, Copy, PartialEq, Eq, Default)]
 pub struct LlqNumber(pub u64);
 
 // A header's fields: the third byte holds QR, OPCODE, AA, TC and RD.
@@ -32,7 +32,7 @@ pub struct Header {
 }
 
 // A question: where its name starts in the datagram, how many bytes the name takes, its type and class. Places in a datagram fit 16 bits: eight questions are then 64 bytes without gaps.
-#[derive(Clone, Copy)]
+#[derive(Clone, Copy, Default)]
 pub struct Question {
     pub start: u16,
     pub len: u16,
@@ -41,7 +41,7 @@ pub struct Question {
 }
 
 // An LLQ option's 18 bytes. The widest field comes first: an array of eight is then cleared in two stores an option.
-#[derive(Clone, Copy)]
+#[derive(Clone, Copy, Default)]
 pub struct LlqOption {
     pub number: LlqNumber,
     pub lease: u32,
@@ -50,264 +50,174 @@ pub struct LlqOption {
     pub error: u16,
 }
 
-// A place in a message. Each reader takes it and hands it back moved on.
+// A place in a message. Each reader takes it and hands it back moved on, beside what it read; none where the bytes end first or are no such thing.
 #[derive(Clone, Copy)]
 pub struct Cursor {
     pub at: usize,
 }
 
+// A label that is passed, or the zero byte that ends a name: the place behind it.
 #[derive(Clone, Copy)]
-pub enum ByteRead {
-    Byte(u8, Cursor),
-    Short,
-}
-
-#[derive(Clone, Copy)]
-pub enum NumberRead {
-    Number(u16, Cursor),
-    Short,
-}
-
-// A header, and the place behind it.
-#[derive(Clone, Copy)]
-pub struct HeaderRead {
-    pub header: Header,
-    pub next: Cursor,
-}
-
-// A label that is passed, or the zero byte that ends a name.
-#[derive(Clone, Copy)]
-pub enum LabelRead {
+pub enum Label {
     Label(Cursor),
     Last(Cursor),
-    Bad,
-}
-
-// How many bytes a name takes.
-#[derive(Clone, Copy)]
-pub enum NameRead {
-    Name(usize, Cursor),
-    Bad,
 }
 
 // Where a question's name starts and how many bytes it takes, and its numbers.
 #[derive(Clone, Copy)]
-pub enum QuestionRead {
-    Found {
-        start: usize,
-        len: usize,
-        qtype: u16,
-        qclass: u16,
-        next: Cursor,
-    },
-    Bad,
-}
-
-// Where an OPT record's data start.
-#[derive(Clone, Copy)]
-pub enum OptRead {
-    Data(Cursor),
-    Bad,
+pub struct QuestionRead {
+    pub start: usize,
+    pub len: usize,
+    pub qtype: u16,
+    pub qclass: u16,
 }
 
 // An option's code, where its data start and how many bytes they are.
 #[derive(Clone, Copy)]
-pub enum OptionRead {
-    Found {
-        code: u16,
-        data: Cursor,
-        size: usize,
-        next: Cursor,
-    },
-    Bad,
-}
-
-// An LLQ option, and the place behind it.
-#[derive(Clone, Copy)]
-pub struct LlqRead {
-    pub option: LlqOption,
-    pub next: Cursor,
+pub struct OptionRead {
+    pub code: u16,
+    pub data: Cursor,
+    pub size: usize,
 }
 
 impl Cursor {
-    pub fn byte(self, s: &[u8]) -> ByteRead
+    // There are n bytes from here on.
+    fn holds(self, s: &[u8], n: usize) -> bool
+        ensures { result ≡ leb (self.at + n) (length s.now) }
+    {
+        n <= s.len() && self.at <= s.len() - n
+    }
+
+    pub fn byte(self, s: &[u8]) -> Option<(u8, Cursor)>
         ensures { result ≡ read_byte s.now self.at }
     {
-        let at = self.at;
-        if at < s.len() {
-            ByteRead::Byte(s[at], Cursor { at: at + 1 })
-        } else {
-            ByteRead::Short
-        }
+        let b = *s.get(self.at)?;
+        Some((b, Cursor { at: self.at + 1 }))
     }
 
     // A number of 16 bits.
-    pub fn number(self, s: &[u8]) -> NumberRead
+    pub fn number(self, s: &[u8]) -> Option<(u16, Cursor)>
         ensures { result ≡ read_number s.now self.at }
     {
-        let at = self.at;
-        if s.len() < 2 {
-            return NumberRead::Short;
+        if !self.holds(s, 2) {
+            return None;
         }
-        if s.len() - 2 < at {
-            return NumberRead::Short;
-        }
-        NumberRead::Number(octets::get16(s, at), Cursor { at: at + 2 })
+        let number = octets::get16(s, self.at);
+        Some((number, Cursor { at: self.at + 2 }))
     }
 
     // A header's 12 bytes.
-    pub fn header(self, s: &[u8]) -> HeaderRead
+    pub fn header(self, s: &[u8]) -> (Header, Cursor)
         requires { self.at + 12 ≤ length s.now }
         ensures { result ≡ read_header s.now self.at }
     {
         let at = self.at;
-        HeaderRead {
-            header: Header {
-                number: MessageNumber(octets::get16(s, at)),
-                flags: s[at + 2],
-                qdcount: octets::get16(s, at + 4),
-                ancount: octets::get16(s, at + 6),
-                nscount: octets::get16(s, at + 8),
-                arcount: octets::get16(s, at + 10),
-            },
-            next: Cursor {
+        let header = Header {
+            number: MessageNumber(octets::get16(s, at)),
+            flags: s[at + 2],
+            qdcount: octets::get16(s, at + 4),
+            ancount: octets::get16(s, at + 6),
+            nscount: octets::get16(s, at + 8),
+            arcount: octets::get16(s, at + 10),
+        };
+        (
+            header,
+            Cursor {
                 at: at + HEADER_LEN,
             },
-        }
+        )
     }
 
     // A length byte of 1 to 63 and the label's bytes, or the zero byte.
-    pub fn label(self, s: &[u8]) -> LabelRead
+    pub fn label(self, s: &[u8]) -> Option<Label>
         ensures { result ≡ read_label s.now self.at }
     {
-        match self.byte(s) {
-            ByteRead::Byte(b, next) => {
-                if b == 0 {
-                    return LabelRead::Last(next);
-                }
-                if b >= 64 {
-                    return LabelRead::Bad;
-                }
-                LabelRead::Label(Cursor {
-                    at: next.at + b as usize,
-                })
-            }
-            ByteRead::Short => LabelRead::Bad,
+        let (b, next) = self.byte(s)?;
+        match b {
+            0 => Some(Label::Last(next)),
+            1..=63 => Some(Label::Label(Cursor {
+                at: next.at + usize::from(b),
+            })),
+            _ => None,
         }
     }
 
-    // Labels up to the zero byte, at most 255 bytes.
-    pub fn name(self, s: &[u8]) -> NameRead
+    // Labels up to the zero byte, at most 255 bytes: how many bytes the name takes.
+    pub fn name(self, s: &[u8]) -> Option<(usize, Cursor)>
         ensures { result ≡ read_name s.now self.at }
     {
         let start = self.at;
         let mut c = self;
         while c.at - start < 255 {
-            match c.label(s) {
-                LabelRead::Label(next) => {
-                    c = next;
-                }
-                LabelRead::Last(next) => {
-                    return NameRead::Name(next.at - start, next);
-                }
-                LabelRead::Bad => {
-                    return NameRead::Bad;
-                }
+            match c.label(s)? {
+                Label::Label(next) => c = next,
+                Label::Last(next) => return Some((next.at - start, next)),
             }
         }
-        NameRead::Bad
+        None
     }
 
     // A name, a type and a class.
-    pub fn question(self, s: &[u8]) -> QuestionRead
+    pub fn question(self, s: &[u8]) -> Option<(QuestionRead, Cursor)>
         ensures { result ≡ read_question s.now self.at }
     {
-        let start = self.at;
-        match self.name(s) {
-            NameRead::Name(len, c1) => match c1.number(s) {
-                NumberRead::Number(qtype, c2) => match c2.number(s) {
-                    NumberRead::Number(qclass, next) => QuestionRead::Found {
-                        start,
-                        len,
-                        qtype,
-                        qclass,
-                        next,
-                    },
-                    NumberRead::Short => QuestionRead::Bad,
-                },
-                NumberRead::Short => QuestionRead::Bad,
-            },
-            NameRead::Bad => QuestionRead::Bad,
-        }
+        let (len, next) = self.name(s)?;
+        let (qtype, next) = next.number(s)?;
+        let (qclass, next) = next.number(s)?;
+        let q = QuestionRead {
+            start: self.at,
+            len,
+            qtype,
+            qclass,
+        };
+        Some((q, next))
     }
 
-    // Refusal 6, but for the options: an OPT record with the root, type 41, version 0, and data that ends where the message does.
-    pub fn opt(self, s: &[u8]) -> OptRead
+    // Refusal 6, but for the options: an OPT record with the root, type 41, version 0, and data that ends where the message does. Where the data start.
+    pub fn opt(self, s: &[u8]) -> Option<Cursor>
         ensures { result ≡ read_opt s.now self.at }
     {
         let at = self.at;
-        if s.len() < OPT_LEN {
-            return OptRead::Bad;
+        if self.holds(s, OPT_LEN)
+            && s[at] == 0
+            && octets::get16(s, at + 1) == 41
+            && s[at + 6] == 0
+            && at + OPT_LEN + usize::from(octets::get16(s, at + 9)) == s.len()
+        {
+            Some(Cursor { at: at + OPT_LEN })
+        } else {
+            None
         }
-        if s.len() - OPT_LEN < at {
-            return OptRead::Bad;
-        }
-        if s[at] != 0 {
-            return OptRead::Bad;
-        }
-        if octets::get16(s, at + 1) != 41 {
-            return OptRead::Bad;
-        }
-        if s[at + 6] != 0 {
-            return OptRead::Bad;
-        }
-        let data = at + OPT_LEN;
-        if data + octets::get16(s, at + 9) as usize != s.len() {
-            return OptRead::Bad;
-        }
-        OptRead::Data(Cursor { at: data })
     }
 
     // A code, a length, and as many bytes.
-    pub fn option(self, s: &[u8]) -> OptionRead
+    #[tactic(auto, unfolding(model::specs::Query::good_option))]
+    pub fn option(self, s: &[u8]) -> Option<(OptionRead, Cursor)>
         ensures { result ≡ read_option s.now self.at }
     {
-        let at = self.at;
-        if s.len() < 4 {
-            return OptionRead::Bad;
+        let (code, next) = self.number(s)?;
+        let (size, data) = next.number(s)?;
+        let size = usize::from(size);
+        if !data.holds(s, size) {
+            return None;
         }
-        if s.len() - 4 < at {
-            return OptionRead::Bad;
-        }
-        let code = octets::get16(s, at);
-        let start = at + 4;
-        let size = octets::get16(s, at + 2) as usize;
-        if s.len() - start < size {
-            return OptionRead::Bad;
-        }
-        OptionRead::Found {
-            code,
-            data: Cursor { at: start },
-            size,
-            next: Cursor { at: start + size },
-        }
+        let next = Cursor { at: data.at + size };
+        Some((OptionRead { code, data, size }, next))
     }
 
     // The 18 bytes of an LLQ option's data.
-    pub fn llq_option(self, s: &[u8]) -> LlqRead
+    pub fn llq_option(self, s: &[u8]) -> (LlqOption, Cursor)
         requires { self.at + 18 ≤ length s.now }
         ensures { result ≡ read_llq_option s.now self.at }
     {
         let at = self.at;
-        LlqRead {
-            option: LlqOption {
-                version: octets::get16(s, at),
-                opcode: octets::get16(s, at + 2),
-                error: octets::get16(s, at + 4),
-                number: LlqNumber(octets::get64(s, at + 6)),
-                lease: octets::get32(s, at + 14),
-            },
-            next: Cursor { at: at + 18 },
-        }
+        let option = LlqOption {
+            version: octets::get16(s, at),
+            opcode: octets::get16(s, at + 2),
+            error: octets::get16(s, at + 4),
+            number: LlqNumber(octets::get64(s, at + 6)),
+            lease: octets::get32(s, at + 14),
+        };
+        (option, Cursor { at: at + 18 })
     }
 }

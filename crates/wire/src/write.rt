@@ -26,17 +26,13 @@ pub fn put_opt(reply: &mut [u8], at: usize, k: u16)
     ensures { reply.new ≡ splice at 11 (opt_bytes k) reply.old }
 {
     octets::put8(reply, at, 0);
-    let a = at + 1;
-    octets::put16(reply, a, 41);
-    let b = a + 2;
-    octets::put16(reply, b, 1472);
-    let c = b + 2;
-    octets::put32(reply, c, 0);
-    let d = c + 4;
-    octets::put16(reply, d, OPTION_LEN as u16 * k);
+    octets::put16(reply, at + 1, 41);
+    octets::put16(reply, at + 3, 1472);
+    octets::put32(reply, at + 5, 0);
+    octets::put16(reply, at + 9, OPTION_LEN as u16 * k);
 }
 
-// An option at index at.
+// An option at index at. Its numbers come one by one: a reply's version is 1, and an LlqOption's may be any.
 pub fn put_option(
     reply: &mut [u8],
     at: usize,
@@ -49,16 +45,10 @@ pub fn put_option(
     ensures { reply.new ≡ splice at 22 (option_bytes (outcome_sent opcode error number.0 lease)) reply.old }
 {
     octets::put16(reply, at, 1);
-    let a = at + 2;
-    octets::put16(reply, a, 18);
-    let b = a + 2;
-    octets::put16(reply, b, 1);
-    let c = b + 2;
-    octets::put16(reply, c, opcode);
-    let d = c + 2;
-    octets::put16(reply, d, error);
-    let e = d + 2;
-    octets::put64(reply, e, number.0);
-    let f = e + 8;
-    octets::put32(reply, f, lease);
+    octets::put16(reply, at + 2, 18);
+    octets::put16(reply, at + 4, 1);
+    octets::put16(reply, at + 6, opcode);
+    octets::put16(reply, at + 8, error);
+    octets::put64(reply, at + 10, number.0);
+    octets::put32(reply, at + 18, lease);
 }

@@ -44,8 +44,8 @@ returns-then-s-lt0 c =
     rw (← c.step_of-s.ensures)
     (kept z (rw (to_z-of_z w64 z fit) at c.if-s.false) (rw (to_z-of_z w64 z fit) at c.if-s-lt0.true) _ _)
 
-pub overflow_cast-s : goal.overflow_cast-s
-overflow_cast-s c =
+pub overflow_cast-result : goal.overflow_cast-result
+overflow_cast-result c =
     let z = c.step_of-s.result in
     let fit : SFits w64 z = record { sfits = c.step_of-s.type_inv } in
     let w = weeks_of c.args.weeks in
@@ -58,4 +58,4 @@ returns c =
     let z = c.step_of-s.result in
     let fit : SFits w64 z = record { sfits = c.step_of-s.type_inv } in
     rw (← c.step_of-s.ensures)
-    (added z (rw (to_z-of_z w64 z fit) at c.if-s-lt0.false) _ _ _ (rw (to_z-of_z w64 z fit) at c.wrapping_add_u32.ensures.value))
+    (added z (rw (to_z-of_z w64 z fit) at c.if-s-lt0.false) _ _ _ (ap (λ (v : ℤ). (c.args.c.running + nat_abs v) % 2 ^ 32) (to_z-of_z w64 z fit)))

@@ -1,34 +1,35 @@
 -- `entries::slot_answers` meets its contract: number, span, and then whose it is. Assumes nothing.
-use Rattle.std.proofs.Common.{◌≡◌, ℕ, ◌*◌, sym, ap, ◌∙◌, eq-eqb, ne_eqb}
+use Rattle.std.proofs.Common.{◌≡◌, true, false, sym, ◌∙◌}
 use mathlib.Core.Bool.{and-true, and-false}
+use Rattle.model.proofs.ListLaws.{and_right}
+use Rattle.model.specs.Rules.{numbered, holding}
 use Rattle.model.specs.Table.{read_entry}
-use Rattle.model.specs.Serve.{in_span}
-use Rattle.entries.specs.declared.Entry.{Entry}
-use Rattle.entries.specs.Reads.{entry_at}
+use Rattle.model.specs.Serve.{right_lease}
+use Rattle.layout.specs.Held.{holding_at}
+use Rattle.entries.specs.Reads.{sent}
 use Rattle.entries.proofs.Laws as law
 use Rattle.entries.proofs.slot_answers.Goals as goal
 
-pub returns-then-own-number : goal.returns-then-own-number
-unfolding entry_at read_entry
-returns-then-own-number c =
-    let a = c.args in
-    let own : a.e.number.0 ≡ (read_entry a.slots.now (320 * a.i)).number = ap (λ (x : Entry). x.number.0) c.requires.1 in
-    sym (law.has-never _ _ a.slots.now (320 * a.i) (rw (← own, ne_eqb _ _ c.if-own-number.true)))
+pub returns-then-not-has_number : goal.returns-then-not-has_number
+unfolding holding_at
+returns-then-not-has_number c =
+    sym (law.has-unlikely _ _ c.args.slot.bytes.now c.args.slot.at (numbered c.args.number.0) (λ e. rw e) (sym c.has_number.ensures ∙ c.if-not-has_number.true))
 
 pub returns-then-in_span : goal.returns-then-in_span
-unfolding entry_at read_entry
+unfolding holding_at
 returns-then-in_span c =
     let a = c.args in
-    let own : a.e.number.0 ≡ (read_entry a.slots.now (320 * a.i)).number = ap (λ (x : Entry). x.number.0) c.requires.1 in
-    let age = c.age-age.ensures in
-    let right = law.span-read a.slots.now (320 * a.i) a.e c.requires.1 a.running a.number.0 a.lease in
-    let within = sym right ∙ ap (λ (k : ℕ). in_span a.e.lease k a.lease) (sym age) ∙ sym c.in_span.ensures ∙ c.if-in_span.true in
-    c.slot_asks.ensures ∙ sym (law.has_same _ _ _ _ a.slots.now (320 * a.i) (rw (within, ← own, eq-eqb _ _ c.if-own-number.false, and-true)))
+    let here = sym c.has_number.ensures ∙ c.if-not-has_number.false in
+    let right : right_lease (sent a.number.0 a.lease) (holding a.running (read_entry a.slot.bytes.now a.slot.at)) ≡ true =
+    law.span-read a.slot.bytes.now a.slot.at a.running a.number.0 a.lease c.lease.ensures c.stamp.ensures c.age-age.ensures (sym c.if-in_span.true ∙ c.in_span.ensures) in
+    let own : numbered a.number.0 (holding_at 0 a.slot.bytes.now a.slot.at) ≡ true = and_right _ _ here in
+    c.entry_asks.ensures ∙ sym (law.has-likely _ _ a.slot.bytes.now a.slot.at (numbered a.number.0) here ∙ rw (right, own, and-true))
 
-pub returns : goal.returns
-returns c =
+pub returns-else-in_span : goal.returns-else-in_span
+unfolding holding_at
+returns-else-in_span c =
     let a = c.args in
-    let age = c.age-age.ensures in
-    let right = law.span-read a.slots.now (320 * a.i) a.e c.requires.1 a.running a.number.0 a.lease in
-    let out = sym right ∙ ap (λ (k : ℕ). in_span a.e.lease k a.lease) (sym age) ∙ sym c.in_span.ensures ∙ c.if-in_span.false in
-    sym (law.has-never _ _ a.slots.now (320 * a.i) (rw (out, and-false)))
+    let here = sym c.has_number.ensures ∙ c.if-not-has_number.false in
+    let right : right_lease (sent a.number.0 a.lease) (holding a.running (read_entry a.slot.bytes.now a.slot.at)) ≡ false =
+    law.span-read a.slot.bytes.now a.slot.at a.running a.number.0 a.lease c.lease.ensures c.stamp.ensures c.age-age.ensures (sym c.if-in_span.false ∙ c.in_span.ensures) in
+    c.if-in_span.false ∙ sym (law.has-likely _ _ a.slot.bytes.now a.slot.at (numbered a.number.0) here ∙ rw (right, and-false))

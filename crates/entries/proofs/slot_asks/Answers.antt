@@ -1,23 +1,17 @@
--- `entries::slot_asks` meets its contract: by the state. Assumes nothing.
-use Rattle.std.proofs.Common.{◌*◌, sym}
+-- `entries::slot_asks` meets its contract: the holder, and then what is asked. Assumes nothing.
+use Rattle.std.proofs.Common.{sym, ◌∙◌}
+use Rattle.model.specs.Rules.{held_by}
+use Rattle.entries.specs.Reads.{sender_of}
 use Rattle.layout.specs.Held.{holding_at}
-use Rattle.record.specs.declared.State.TheVariants.{Free, Pending, Established}
 use Rattle.entries.proofs.Laws as law
 use Rattle.entries.proofs.slot_asks.Goals as goal
 
-pub returns-in-Free : goal.returns-in-Free
-returns-in-Free c =
-    let a = c.args in
-    sym (law.has-out _ _ a.slots.now (320 * a.i) (law.state-in a.slots.now (320 * a.i) a.e c.requires.1 Free c.in-Free.is))
-
-pub returns-in-Pending : goal.returns-in-Pending
+pub returns-then-has_holder : goal.returns-then-has_holder
 unfolding holding_at
-returns-in-Pending c =
-    let a = c.args in
-    rw (law.has_in _ _ a.slots.now (320 * a.i) (law.state-in a.slots.now (320 * a.i) a.e c.requires.1 Pending c.in-Pending.is)) c.entry_asks.ensures
+returns-then-has_holder c =
+    c.entry_asks.ensures ∙ sym (law.has-likely _ _ c.args.slot.bytes.now c.args.slot.at (held_by (sender_of c.args.asked.sender).address) (sym c.has_holder.ensures ∙ c.if-has_holder.true))
 
-pub returns-in-Established : goal.returns-in-Established
+pub returns-else-has_holder : goal.returns-else-has_holder
 unfolding holding_at
-returns-in-Established c =
-    let a = c.args in
-    rw (law.has_in _ _ a.slots.now (320 * a.i) (law.state-in a.slots.now (320 * a.i) a.e c.requires.1 Established c.in-Established.is)) c.entry_asks-in-Established.ensures
+returns-else-has_holder c =
+    c.if-has_holder.false ∙ sym (law.has-unlikely _ _ c.args.slot.bytes.now c.args.slot.at (held_by (sender_of c.args.asked.sender).address) (λ e. rw e) (sym c.has_holder.ensures ∙ c.if-has_holder.false))

@@ -1,34 +1,36 @@
 -- `entries::slot_refreshes` meets its contract: the number, the state, and then whose it is. Assumes nothing.
-use Rattle.std.proofs.Common.{◌≡◌, ◌*◌, sym, ap, ◌∙◌, eq-eqb, ne_eqb}
+use Rattle.std.proofs.Common.{◌≡◌, true, false, sym, ◌∙◌, inl, inr}
 use mathlib.Core.Bool.{and-false}
+use Rattle.model.proofs.ListLaws.{and_right}
+use Rattle.model.specs.Rules.{numbered}
 use Rattle.model.specs.Table.{read_entry}
-use Rattle.entries.specs.declared.Entry.{Entry}
-use Rattle.entries.specs.Reads.{entry_at}
-use Rattle.entries.proofs.Laws as law
+use Rattle.layout.specs.Held.{holding_at}
 use Rattle.record.specs.declared.State.TheVariants.{Free, Pending, Established}
+use Rattle.entries.proofs.Laws as law
 use Rattle.entries.proofs.slot_refreshes.Goals as goal
 
-pub returns-then-own-number : goal.returns-then-own-number
-unfolding entry_at read_entry
-returns-then-own-number c =
+pub returns-then-not-has_number : goal.returns-then-not-has_number
+unfolding holding_at
+returns-then-not-has_number c =
     let a = c.args in
-    let own : a.e.number.0 ≡ (read_entry a.slots.now (320 * a.i)).number = ap (λ (x : Entry). x.number.0) c.requires.1 in
-    sym (law.has-never _ _ a.slots.now (320 * a.i) (rw (← own, ne_eqb _ _ c.if-own-number.true, and-false)))
+    sym (law.has-unlikely _ _ a.slot.bytes.now a.slot.at (numbered a.number.0) (λ e. rw (e, and-false)) (sym c.has_number.ensures ∙ c.if-not-has_number.true))
 
 pub returns-in-Free : goal.returns-in-Free
+unfolding holding_at
 returns-in-Free c =
     let a = c.args in
-    sym (law.has-never _ _ a.slots.now (320 * a.i) (rw (law.state-established a.slots.now (320 * a.i) a.e c.requires.1 Free c.in-Free.is)))
-
-pub returns-in-Pending : goal.returns-in-Pending
-returns-in-Pending c =
-    let a = c.args in
-    sym (law.has-never _ _ a.slots.now (320 * a.i) (rw (law.state-established a.slots.now (320 * a.i) a.e c.requires.1 Pending c.in-Pending.is)))
+    let e : (read_entry a.slot.bytes.now a.slot.at).established ≡ false =
+    elim c.in-Free.is [
+      | inl f ↦ law.state-established a.slot.bytes.now a.slot.at c.kind.ensures c.from.ensures Free f
+      | inr f ↦ law.state-established a.slot.bytes.now a.slot.at c.kind.ensures c.from.ensures Pending f
+    ] in
+    sym (law.has-likely _ _ a.slot.bytes.now a.slot.at (numbered a.number.0) (sym c.has_number.ensures ∙ c.if-not-has_number.false) ∙ rw e)
 
 pub returns-in-Established : goal.returns-in-Established
-unfolding entry_at read_entry
+unfolding holding_at
 returns-in-Established c =
     let a = c.args in
-    let own : a.e.number.0 ≡ (read_entry a.slots.now (320 * a.i)).number = ap (λ (x : Entry). x.number.0) c.requires.1 in
-    let e = law.state-established a.slots.now (320 * a.i) a.e c.requires.1 Established c.in-Established.is in
-    c.slot_asks.ensures ∙ sym (law.has_same _ _ _ _ a.slots.now (320 * a.i) (rw (e, ← own, eq-eqb _ _ c.if-own-number.false)))
+    let here = sym c.has_number.ensures ∙ c.if-not-has_number.false in
+    let own : numbered a.number.0 (holding_at 0 a.slot.bytes.now a.slot.at) ≡ true = and_right _ _ here in
+    let e = law.state-established a.slot.bytes.now a.slot.at c.kind.ensures c.from.ensures Established c.in-Established.is in
+    c.entry_asks.ensures ∙ sym (law.has-likely _ _ a.slot.bytes.now a.slot.at (numbered a.number.0) here ∙ rw (e, own))

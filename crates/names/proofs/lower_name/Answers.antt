@@ -6,5 +6,5 @@ use Rattle.names.proofs.lower_name.Goals as goal
 pub returns-then-labels : goal.returns-then-labels
 returns-then-labels c = rw (name-is, sym c.labels.ensures ∙ c.if-labels.true) c.lower_case.ensures
 
-pub returns : goal.returns
-returns c = rw (name-is, sym c.labels.ensures ∙ c.if-labels.false)
+pub returns-else-labels : goal.returns-else-labels
+returns-else-labels c = rw (name-is, sym c.labels.ensures ∙ c.if-labels.false) c.if-labels.false

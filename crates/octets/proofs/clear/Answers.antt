@@ -1,20 +1,10 @@
 -- The proof of `clear`. Assumes nothing.
+use Prim.Native.Nat.{ℕ}
 use native.Mathlib.Omega.{arith}
-use mathlib.Core.Path.{◌≡◌, refl, sym}
-use lib.ListN.{length-set}
-use Rattle.octets.proofs.Laws.{clear_step}
-use Rattle.model.proofs.NumberLaws.{splice-none}
+use mathlib.Core.Path.{refl, ap, ◌∙◌}
+use lib.ListN.{length-take, length-drop, replicate}
+use Rattle.model.proofs.NumberLaws.{lent_is}
 use Rattle.octets.proofs.clear.Goals as goal
 
-pub loop-i-init : goal.loop-i-init
-loop-i-init c = (omega arith, refl, sym (splice-none _ _))
-
-pub loop-i-preserved : goal.loop-i-preserved
-loop-i-preserved c =
-    let l = c.loop-i in
-    (omega arith, simp length-set (omega arith), rw l.invariant.2 (clear_step _ l.i _ (omega arith)))
-
 pub returns : goal.returns
-returns c =
-    let e : c.loop-i.i ≡ c.args.n = omega arith in
-    rw (← e) c.loop-i.invariant.2
+returns c = lent_is _ c.args.n refl (c.fill.ensures.after (λ y e. e) ∙ ap (λ (k : ℕ). replicate k 0) (simp (length-take, length-drop) (omega arith)))

@@ -1,72 +1,9 @@
 -- The proof of `get32`. Assumes nothing.
-use Prim.Native.Nat.{◌+◌}
 use native.Mathlib.Omega.{arith}
-use mathlib.Core.Path.{◌∙◌}
-use Rattle.octets.proofs.SwapLaws.{low-first-is}
+use native.Mathlib.Nat.{add-zero}
+use Rattle.model.specs.Numbers.{big_endian}
 use Rattle.octets.proofs.get32.Goals as goal
 
-pub overflow_cast-s : goal.overflow_cast-s
-overflow_cast-s c =
-    let g = c.type_inv.s in
-    let a = c.args.at in
-    omega (arith, g a)
-
-pub overflow_cast-s-2 : goal.overflow_cast-s-2
-overflow_cast-s-2 c =
-    let g = c.type_inv.s in
-    let a = c.args.at in
-    omega (arith, g (a + 1))
-
-pub overflow_mul-s : goal.overflow_mul-s
-overflow_mul-s c =
-    let g = c.type_inv.s in
-    let a = c.args.at in
-    omega (arith, g (a + 1))
-
-pub overflow_add-s : goal.overflow_add-s
-overflow_add-s c =
-    let g = c.type_inv.s in
-    let a = c.args.at in
-    omega (arith, g a, g (a + 1))
-
-pub overflow_cast-s-3 : goal.overflow_cast-s-3
-overflow_cast-s-3 c =
-    let g = c.type_inv.s in
-    let a = c.args.at in
-    omega (arith, g (a + 2))
-
-pub overflow_mul-s-2 : goal.overflow_mul-s-2
-overflow_mul-s-2 c =
-    let g = c.type_inv.s in
-    let a = c.args.at in
-    omega (arith, g (a + 2))
-
-pub overflow_add-s-2 : goal.overflow_add-s-2
-overflow_add-s-2 c =
-    let g = c.type_inv.s in
-    let a = c.args.at in
-    omega (arith, g a, g (a + 1), g (a + 2))
-
-pub overflow_cast-s-4 : goal.overflow_cast-s-4
-overflow_cast-s-4 c =
-    let g = c.type_inv.s in
-    let a = c.args.at in
-    omega (arith, g (a + 3))
-
-pub overflow_mul-s-3 : goal.overflow_mul-s-3
-overflow_mul-s-3 c =
-    let g = c.type_inv.s in
-    let a = c.args.at in
-    omega (arith, g (a + 3))
-
-pub overflow_add-s-3 : goal.overflow_add-s-3
-overflow_add-s-3 c =
-    let g = c.type_inv.s in
-    let a = c.args.at in
-    omega (arith, g a, g (a + 1), g (a + 2), g (a + 3))
-
 pub returns : goal.returns
-returns c =
-    let g = c.type_inv.s in
-    let a = c.args in
-    c.swapped32.ensures ∙ low-first-is 3 a.s.now a.at (λ i. omega (arith, g i))
+unfolding big_endian
+returns c = rw add-zero (omega arith)

@@ -1,22 +1,8 @@
 -- The proof of `put32`. Assumes nothing.
-use native.Mathlib.Omega.{arith}
-use lib.ListN.{length-set}
-use Rattle.octets.proofs.SwapLaws.{stores-is}
+use mathlib.Core.Path.{refl, ◌∙◌}
+use Rattle.model.proofs.NumberLaws.{lent_is}
+use Rattle.octets.proofs.Conversions.{high-first-is}
 use Rattle.octets.proofs.put32.Goals as goal
 
-pub bounds-s-at-2 : goal.bounds-s-at-2
-bounds-s-at-2 c = simp length-set (omega arith)
-
-pub bounds-s-at-3 : goal.bounds-s-at-3
-bounds-s-at-3 c = simp length-set (omega arith)
-
-pub bounds-s-at-4 : goal.bounds-s-at-4
-bounds-s-at-4 c = simp length-set (omega arith)
-
-pub shape_of-s : goal.shape_of-s
-shape_of-s c = simp length-set
-
 pub returns : goal.returns
-returns c =
-    let a = c.args in
-    stores-is 3 a.at a.s.now a.x c.swapped32-y.ensures (omega arith)
+returns c = lent_is _ 4 refl (c.copy_from_slice.ensures.after ∙ c.to_be_bytes.ensures ∙ high-first-is 4 c.args.x)

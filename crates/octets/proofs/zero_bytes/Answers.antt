@@ -1,5 +1,5 @@
 -- `octets::zero_bytes` meets its contract: the bytes passed are zeros. Assumes nothing.
-use mathlib.Core.Path.{◌≡◌, refl, sym}
+use mathlib.Core.Path.{refl, sym}
 use native.Mathlib.Omega.{arith}
 use borrow.Author.Rules.{rules}
 use borrow.Author.Tests.{eq-eqb, ne_eqb}
@@ -23,8 +23,3 @@ loop-i-preserved c =
     let l = c.loop-i in
     let a = c.args in
     (omega arith, zero-next a.s.now a.at l.i (omega arith) (eq-eqb _ _ c.if-s-at-ne0.false) l.invariant.1)
-
-pub returns : goal.returns
-returns c =
-    let e : c.loop-i.i ≡ c.args.n = omega arith in
-    sym (rw e at c.loop-i.invariant.1)

@@ -1,40 +1,38 @@
 -- `options::grant` meets its contract. Assumes nothing.
-use native.Mathlib.Omega.{arith}
-use mathlib.Core.Path.{◌≡◌}
-use mathlib.Core.List.{map}
-use lib.ListN.{length}
-use Rattle.model.specs.Numbers.{Bytes, part}
+use Rattle.std.proofs.Common.{◌≡◌, length, map, arith}
+use Rattle.model.specs.Numbers.{part}
 use Rattle.model.specs.Names.{fold}
-use Rattle.model.proofs.NumberLaws.{bytes-part}
-use Rattle.model.proofs.NameLaws.{bytes-fold}
-use Rattle.layout.proofs.PartLaws.{tail-is, tail_written}
+use Rattle.layout.proofs.PartLaws.{tail_written}
 use Rattle.table.proofs.EntryLaws.{folded-length}
-use Rattle.wire.specs.Records.{question_of}
 use Rattle.options.proofs.OptionLaws as law
 use Rattle.options.proofs.grant.Goals as goal
+use Rattle.options.proofs.grant.Goals.{After-slots_of-slots}
 
-pub returns-then-j-n : goal.returns-then-j-n
-returns-then-j-n c =
-    let a = c.args in
-    let bytes : Bytes a.t.now = λ j. omega (arith, c.slice_known-1.given j) in
-    law.grant-none a.t.now bytes c.requires.0 a.l.n c.requires.2 a.s a.r (question_of a.d.now a.q) a.o (rw (tail-is a.t.now c.requires.1.2) at c.fresh_number-number.ensures) c.granted_lease-lease.ensures (rw (tail-is a.t.now c.requires.1.2) at c.find_free-j.ensures) c.if-j-n.true _ c.served.ensures
+on : (c : After-slots_of-slots) → law.Formed c.args.t.now c.args.l.n
+on c = law.formed-of c.args.l (λ j. grind arith) c.requires.0 c.requires.1
+
+pub returns-in_default : goal.returns-in_default
+returns-in_default c =
+    law.grant-none (on (goal.at.returns-in_default c).After-slots_of-slots) c.args.asked c.args.o c.args.r c.slots_of-slots.result c.slots_of-slots.ensures
+    c.fresh_number-number.ensures c.granted_lease-lease.ensures c.find_free.ensures c.in_default.is c.served-challenge.ensures
 
 pub returns : goal.returns
 returns c =
     let a = c.args in
-    let bytes : Bytes a.t.now = λ j. omega (arith, c.slice_known-1.given j) in
-    let w = part a.q.start a.q.len a.d.now in
-    let n : length (map fold w) ≡ a.q.len = folded-length a.d.now a.q.start a.q.len c.requires.3 in
-    law.grant-written a.t.now bytes c.requires.0 a.l.n c.requires.2 a.s a.r (question_of a.d.now a.q) a.o (rw (tail-is a.t.now c.requires.1.2) at c.fresh_number-number.ensures) c.granted_lease-lease.ensures (rw (tail-is a.t.now c.requires.1.2) at c.find_free-j.ensures) _ _ c.running_count.ensures c.if-j-n.false
+    let q = a.asked.question in
+    let name = part q.start q.len a.asked.datagram.now in
+    let size : length (map fold name) ≡ q.len = folded-length a.asked.datagram.now q.start q.len a.asked.placed in
+    law.grant-written (on (goal.at.returns c).After-slots_of-slots) a.asked a.o a.r c.slots_of-slots.result c.slots_of-slots.ensures c.fresh_number-number.ensures
+    c.granted_lease-lease.ensures c.find_free.ensures c.in-Some.is q.len c.running_count.ensures
     (record {
-      address = law.address-fits a.s.high a.s.low (omega (arith, c)) (omega (arith, c));
+      address = law.address-fits a.asked.sender.address (omega (arith, c)) (omega (arith, c));
       port = omega (arith, c);
       number = omega (arith, c);
       lease = omega (arith, c);
       stamp = omega (arith, c);
       qtype = omega (arith, c);
       qclass = omega (arith, c);
-      size = omega (arith, n, c.requires.4);
-      bytes = bytes-fold w (bytes-part a.q.start a.q.len a.d.now (λ j. omega (arith, c.type_inv.d j)));
+      size = omega (arith, size, c.requires.2);
+      bytes = c.put_entry.ensures.name_in_bytes;
     })
-    _ (tail_written a.t.now _ 320 _ c.requires.1.2 c.put_entry.ensures) _ c.served-2.ensures
+    (tail_written a.t.now _ 320 _ c.requires.1.2 c.put_entry.ensures.stored) c.served-challenge.ensures

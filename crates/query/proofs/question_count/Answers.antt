@@ -3,9 +3,6 @@ use native.Mathlib.Omega.{arith}
 use Rattle.model.specs.Numbers.{big_endian}
 use Rattle.query.proofs.question_count.Goals as goal
 
-pub overflow_cast-result : goal.overflow_cast-result
-overflow_cast-result c = omega (arith, c.type_inv.s 5)
-
 pub returns : goal.returns
 unfolding big_endian
 returns c = omega arith

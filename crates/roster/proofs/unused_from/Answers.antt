@@ -1,29 +1,33 @@
--- `roster::unused_from` meets its contract: each line passed is unused. Assumes nothing.
-use Prim.Native.Nat.{◌-◌}
-use mathlib.Core.Path.{◌≡◌, sym, ◌∙◌}
+-- `roster::unused_from` meets its contract. Assumes nothing.
+use Prim.Native.Nat.{ℕ, ◌+◌, ◌-◌, ◌*◌}
+use mathlib.Core.Path.{◌≡◌, refl, ap, ◌∙◌}
+use mathlib.Core.Bool.{◌&&◌}
 use native.Mathlib.Omega.{arith}
 use borrow.Author.Rules.{rules}
-use Rattle.layout.specs.Shape.{unused_from}
-use Rattle.layout.proofs.ShapeLaws.{all_none, all_more, all-no}
+use borrow.Author.Tests.{tests}
+use Rattle.layout.specs.Shape.{all, unused_shape, unused_from}
+use Rattle.layout.proofs.ShapeLaws.{all_none, all-next}
+use Rattle.roster.proofs.Chains.{all_is}
 use Rattle.roster.proofs.unused_from.Goals as goal
-
-pub loop-i-init : goal.loop-i-init
-loop-i-init c = (search rules, all_none _)
-
-pub returns-then-not-unused_shape : goal.returns-then-not-unused_shape
-unfolding unused_from
-returns-then-not-unused_shape c =
-    let l = c.loop-i in
-    let a = c.args in
-    sym (all-no _ (16 - a.m) l.i (omega arith) (sym c.unused_shape.ensures ∙ c.if-not-unused_shape.true))
-
-pub loop-i-preserved : goal.loop-i-preserved
-loop-i-preserved c =
-    let l = c.loop-i in
-    (omega arith, all_more _ l.i (sym c.unused_shape.ensures ∙ c.if-not-unused_shape.false) l.invariant.1)
 
 pub returns : goal.returns
 unfolding unused_from
 returns c =
-    let e : c.loop-i.i ≡ 16 - c.args.m = omega arith in
-    sym (rw e at c.loop-i.invariant.1)
+    let m = c.args.m in
+    let b = c.args.bytes.now in
+    let p = λ (j : ℕ). unused_shape b (19 * m + 19 * j) in
+    let z : m - m ≡ 0 = omega arith in
+    all_is
+    m
+    (λ i. all p (i - m))
+    (λ i. unused_shape b (19 * i))
+    (rw z (all_none p))
+    (λ i l.
+    let n : i + 1 - m ≡ i - m + 1 = omega arith in
+    let e : 19 * m + 19 * (i - m) ≡ 19 * i = omega arith in
+    ap (all p) n ∙ all-next p (i - m) ∙ ap (λ (x : ℕ). all p (i - m) && unused_shape b x) e)
+    _
+    (omega arith)
+    c.all.ensures.ran
+    refl
+    (λ x y q k. search (rules, tests))

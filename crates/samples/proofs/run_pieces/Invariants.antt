@@ -1,11 +1,10 @@
--- The proof of `run_pieces`: the place stays within the list, and the table and the buffer keep their lengths. Assumes nothing.
+-- The proof of `run_pieces`: the place stays within the list. Assumes nothing.
 use Prim.Native.Nat.{◌-◌, ◌≤◌}
-use mathlib.Core.Path.{◌≡◌}
 use lib.ListN.{length}
 use Rattle.samples.proofs.run_pieces.Given as goal
 
-abbrev pub invariant-loop-n : goal.invariant-loop-n
-invariant-loop-n l = (l.at ≤ length l.s) × (length l.table ≡ length l.initial.table) × (length l.answers ≡ length l.initial.answers)
+abbrev pub invariant-loop-at : goal.invariant-loop-at
+invariant-loop-at l = l.at ≤ length l.s
 
-abbrev pub decreases-loop-n : goal.decreases-loop-n
-decreases-loop-n l = length l.s - l.at
+abbrev pub decreases-loop-at : goal.decreases-loop-at
+decreases-loop-at l = length l.s - l.at

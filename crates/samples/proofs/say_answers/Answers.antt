@@ -1,21 +1,9 @@
--- The proof of `say_answers`: the places stay within the piece and its answers. Assumes nothing.
+-- The proof of `say_answers`: a call's answer has its numbers. Assumes nothing.
 use native.Mathlib.Omega.{arith}
-use mathlib.Core.Path.{sym, ◌∙◌}
-use borrow.Author.Tests.{leb-true}
-use borrow.Author.Rules.{rules}
+use Rattle.script.proofs.AnswerLaws.{has-numbers}
 use Rattle.samples.proofs.say_answers.Goals as goal
 
-pub answer_length-n-requires : goal.answer_length-n-requires
-answer_length-n-requires c = leb-true _ _ (sym c.whole.ensures ∙ c.loop-n-test.true)
-
-pub bounds-s-at : goal.bounds-s-at
-bounds-s-at c = omega (arith, leb-true _ _ (sym c.whole.ensures ∙ c.loop-n-test.true))
-
-pub next-at-requires : goal.next-at-requires
-next-at-requires c = leb-true _ _ (sym c.whole.ensures ∙ c.loop-n-test.true)
-
-pub loop-n-smaller : goal.loop-n-smaller
-loop-n-smaller c = omega (arith, leb-true _ _ (sym c.whole.ensures ∙ c.loop-n-test.true))
-
-pub loop-n-preserved : goal.loop-n-preserved
-loop-n-preserved c = (omega (arith, leb-true _ _ (sym c.whole.ensures ∙ c.loop-n-test.true)), search rules)
+pub say_answer-requires : goal.say_answer-requires
+say_answer-requires c =
+    let r = c.in-Some.record in
+    omega (arith, has-numbers r.list.now r.at c.in-Some-call.call c.in-Some-call.ensures, c.in-Some-split_at_checked.ensures.cases)

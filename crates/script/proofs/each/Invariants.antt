@@ -8,8 +8,8 @@ use Rattle.script.specs.Ran.{Carried}
 use Rattle.script.proofs.SpelledLaws.{Passed}
 use Rattle.script.proofs.each.Given as goal
 
-abbrev pub invariant-loop-t : goal.invariant-loop-t
-invariant-loop-t l = (l.at ≤ length l.s) × (length l.t ≡ length l.initial.t) × (length l.out ≡ length l.initial.out) × ((done : List Call) × Passed l.s l.at done × Carried done l.initial.t l.t l.initial.out l.out 0 l.to)
+abbrev pub invariant-loop-at : goal.invariant-loop-at
+invariant-loop-at l = (l.at ≤ length l.s) × (length l.t ≡ length l.initial.t) × (length l.out ≡ length l.initial.out) × ((done : List Call) × Passed l.s l.at done × Carried done l.initial.t l.t l.initial.out l.out 0 l.to)
 
-abbrev pub decreases-loop-t : goal.decreases-loop-t
-decreases-loop-t l = length l.s - l.at
+abbrev pub decreases-loop-at : goal.decreases-loop-at
+decreases-loop-at l = length l.s - l.at

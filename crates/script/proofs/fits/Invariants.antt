@@ -8,8 +8,8 @@ use Rattle.script.specs.Answers.{answers_length}
 use Rattle.script.proofs.SpelledLaws.{Passed}
 use Rattle.script.proofs.fits.Given as goal
 
-abbrev pub invariant-loop-n : goal.invariant-loop-n
-invariant-loop-n l = (l.at ≤ length l.s) × ((done : List Call) × Passed l.s l.at done × (answers_length done + l.left ≡ l.size))
+abbrev pub invariant-loop-at : goal.invariant-loop-at
+invariant-loop-at l = (l.at ≤ length l.s) × ((done : List Call) × Passed l.s l.at done × (answers_length done + l.left ≡ l.size))
 
-abbrev pub decreases-loop-n : goal.decreases-loop-n
-decreases-loop-n l = length l.s - l.at
+abbrev pub decreases-loop-at : goal.decreases-loop-at
+decreases-loop-at l = length l.s - l.at

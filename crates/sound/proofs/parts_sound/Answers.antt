@@ -3,13 +3,15 @@ use mathlib.Core.Path.{sym, ◌∙◌}
 use Rattle.sound.proofs.HolderLaws.{all-good, not_good}
 use Rattle.sound.proofs.parts_sound.Goals as goal
 
-pub returns-then-not-records_good : goal.returns-then-not-records_good
-returns-then-not-records_good c =
+pub returns-then-records_good : goal.returns-then-records_good
+returns-then-records_good c =
     let a = c.args in
-    sym (not_good a.running a.lines.now a.slots.now a.n (sym c.records_good.ensures ∙ c.if-not-records_good.true))
+    let l = c.listed-lines.ensures in
+    let g = rw l.0 at (sym c.records_good.ensures ∙ c.if-records_good.true) in
+    (rw (l.0, l.1) at c.rules_sound.ensures) ∙ sym (all-good a.running a.bytes.now a.slots.bytes.now a.slots.n g)
 
-pub returns : goal.returns
-returns c =
+pub returns-else-records_good : goal.returns-else-records_good
+returns-else-records_good c =
     let a = c.args in
-    let g = all-good a.running a.lines.now a.slots.now a.n (sym c.records_good.ensures ∙ c.if-not-records_good.false) in
-    (rw c.listed_lines-m.ensures.0 at c.rules_sound.ensures) ∙ sym g
+    let g = rw c.listed-lines.ensures.0 at (sym c.records_good.ensures ∙ c.if-records_good.false) in
+    c.if-records_good.false ∙ sym (not_good a.running a.bytes.now a.slots.bytes.now a.slots.n g)

@@ -3,10 +3,10 @@ use mathlib.Core.Path.{sym, ◌∙◌}
 use Rattle.layout.specs.Shape.{parts_shape}
 use Rattle.sound.proofs.records_good.Goals as goal
 
-pub returns-then-not-unused_from : goal.returns-then-not-unused_from
+pub returns-then-unused_from : goal.returns-then-unused_from
 unfolding parts_shape
-returns-then-not-unused_from c = rw (← c.requires.4, sym c.unused_from.ensures ∙ c.if-not-unused_from.true)
+returns-then-unused_from c = rw (← c.requires.2, sym c.unused_from.ensures ∙ c.if-unused_from.true) c.slots_good.ensures
 
-pub returns : goal.returns
+pub returns-else-unused_from : goal.returns-else-unused_from
 unfolding parts_shape
-returns c = rw (← c.requires.4, sym c.unused_from.ensures ∙ c.if-not-unused_from.false) c.slots_good.ensures
+returns-else-unused_from c = rw (← c.requires.2, sym c.unused_from.ensures ∙ c.if-unused_from.false) c.if-unused_from.false

@@ -8,25 +8,28 @@ use Rattle.model.specs.Calls.{good_roster}
 use Rattle.layout.specs.Shape.{all}
 use Rattle.sound.proofs.HolderLaws.{too_long}
 use Rattle.sound.proofs.roster_sound.Goals as goal
+use Rattle.sound.proofs.roster_sound.Goals.{then-r-gt-ROSTER-via-then-r-gt-ROSTER, then-r-gt-ROSTER-via-else-r-gt-ROSTER+then-r-ne0}
 
-pub returns-then-len-gt-ROSTER : goal.returns-then-len-gt-ROSTER
-returns-then-len-gt-ROSTER c = sym (too_long c.args.n c.args.r.now (omega arith))
-
-pub returns-then-m-len : goal.returns-then-m-len
+pub returns-then-r-gt-ROSTER : goal.returns-then-r-gt-ROSTER
 unfolding good_roster
-returns-then-m-len c = rw (ne_eqb (length c.args.r.now) (19 * (length c.args.r.now / 19)) (λ e. c.if-m-len.true (sym e)))
+returns-then-r-gt-ROSTER c =
+    elim c.then-r-gt-ROSTER.branch [
+      | then-r-gt-ROSTER-via-then-r-gt-ROSTER w ↦ sym (too_long c.args.n c.args.r.now (omega arith))
+      | then-r-gt-ROSTER-via-else-r-gt-ROSTER+then-r-ne0 w ↦ rw (ne_eqb (length c.args.r.now) (19 * (length c.args.r.now / 19)) (omega arith))
+    ]
 
-pub returns-then-not-kinds_listed : goal.returns-then-not-kinds_listed
+pub returns-then-all_listed : goal.returns-then-all_listed
 unfolding good_roster all
-returns-then-not-kinds_listed c =
+returns-then-all_listed c =
     let r = c.args.r.now in
     let m : length r / 19 ≤ 16 = omega arith in
-    rw (eq-eqb (length r) (19 * (length r / 19)) (sym c.if-m-len.false), le-leb (length r / 19) 16 m, sym c.kinds_listed.ensures ∙ c.if-not-kinds_listed.true)
+    rw (eq-eqb (length r) (19 * (length r / 19)) (omega arith), le-leb (length r / 19) 16 m, sym c.all_listed.ensures ∙ c.if-all_listed.true)
+    c.sound.ensures
 
-pub returns : goal.returns
+pub returns-else-all_listed : goal.returns-else-all_listed
 unfolding good_roster all
-returns c =
+returns-else-all_listed c =
     let r = c.args.r.now in
     let m : length r / 19 ≤ 16 = omega arith in
-    rw (eq-eqb (length r) (19 * (length r / 19)) (sym c.if-m-len.false), le-leb (length r / 19) 16 m, sym c.kinds_listed.ensures ∙ c.if-not-kinds_listed.false)
-    c.lines_sound.ensures
+    rw (eq-eqb (length r) (19 * (length r / 19)) (omega arith), le-leb (length r / 19) 16 m, sym c.all_listed.ensures ∙ c.if-all_listed.false)
+    c.if-all_listed.false

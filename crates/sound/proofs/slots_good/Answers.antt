@@ -1,42 +1,25 @@
--- `sound::slots_good` meets its contract: each slot passed has its shape, and each entry passed is valid. Assumes nothing.
-use mathlib.Core.Path.{◌≡◌, sym, ◌∙◌}
-use mathlib.Core.Bool.{false, and-false}
+-- `sound::slots_good` meets its contract. Assumes nothing.
+use Prim.Native.Nat.{ℕ, ◌*◌}
+use mathlib.Core.Path.{refl}
+use mathlib.Core.Bool.{◌&&◌}
 use native.Mathlib.Omega.{arith}
 use borrow.Author.Rules.{rules}
+use borrow.Author.Tests.{tests}
 use Rattle.model.specs.Lists.{every}
 use Rattle.model.specs.Sound.{valid_entry}
-use Rattle.layout.specs.Held.{held_to}
-use Rattle.layout.proofs.ShapeLaws.{all_none, all_more, all-no}
-use Rattle.layout.proofs.HeldLaws.{held_none, every-yes, every-no}
+use Rattle.model.proofs.ListLaws.{swap}
+use Rattle.layout.specs.Shape.{all, slot_shape}
+use Rattle.layout.specs.Held.{held_to, ok_at}
+use Rattle.layout.proofs.ShapeLaws.{all_none, all-next}
+use Rattle.layout.proofs.HeldLaws.{held_none, every-next}
+use Rattle.roster.proofs.Chains.{all_is}
 use Rattle.sound.proofs.slots_good.Goals as goal
 
-pub loop-i-init : goal.loop-i-init
-unfolding every
-loop-i-init c = (search rules, all_none _, rw held_none)
-
-pub returns-then-not-slot_shape : goal.returns-then-not-slot_shape
-returns-then-not-slot_shape c =
-    let l = c.loop-i in
-    let a = c.args in
-    rw (all-no _ a.n l.i (omega arith) (sym c.slot_shape.ensures ∙ c.if-not-slot_shape.true))
-
-pub returns-then-not-slot_valid : goal.returns-then-not-slot_valid
-returns-then-not-slot_valid c =
-    let l = c.loop-i in
-    let a = c.args in
-    let v : every valid_entry (held_to a.running a.slots.now a.n) ≡ false = every-no a.running _ a.n l.i (omega arith) _ (sym c.slot_valid.ensures ∙ c.if-not-slot_valid.true) in
-    rw (v, and-false)
-
-pub loop-i-preserved : goal.loop-i-preserved
-loop-i-preserved c =
-    let l = c.loop-i in (
-      omega arith,
-      all_more _ l.i (sym c.slot_shape.ensures ∙ c.if-not-slot_shape.false) l.invariant.1,
-      every-yes _ _ l.i _ (sym c.slot_valid.ensures ∙ c.if-not-slot_valid.false) l.invariant.2,
-    )
-
 pub returns : goal.returns
+unfolding every
 returns c =
-    let e : c.loop-i.i ≡ c.args.n = omega arith in
-    let s = rw e at c.loop-i.invariant.1 in
-    let v = rw e at c.loop-i.invariant.2 in rw (s, v)
+    let b = c.args.slots.bytes.now in
+    let r = c.args.running in
+    let p = λ (i : ℕ). slot_shape b (320 * i) in
+    let v = λ (i : ℕ). ok_at r b valid_entry i in
+    all_is 0 (λ i. all p i && every valid_entry (held_to r b i)) (λ i. p i && v i) (rw (all_none p, held_none)) (λ i _. rw (all-next p i, every-next r b i valid_entry) (swap (all p i) (p i) (every valid_entry (held_to r b i)) (v i))) _ (omega arith) c.all.ensures.ran refl (λ x y q k. search (rules, tests))

@@ -1,12 +1,12 @@
 -- `sound::sound` meets its contract: the length, the clock record, then lines and slots. Assumes nothing.
-use Prim.Native.Nat.{ℕ}
+use Prim.Native.Nat.{ℕ, ◌+◌, ◌-◌, ◌<◌}
 use mathlib.Core.Path.{◌≡◌, refl, sym, ap, ◌∙◌}
 use mathlib.Core.Bool.{◌&&◌}
 use mathlib.Core.List.{List}
 use native.Mathlib.Omega.{arith}
 use borrow.Author.Tests.{eq-eqb, ne_eqb, lt-ltb, le-ltb}
-use lib.ListN.{length, get_or, drop}
-use lib.Seq.{drop-drop}
+use lib.ListN.{length, get_or, take, drop}
+use lib.Seq.{get_or-drop, drop-drop}
 use lib.Dec.{eqb, ltb}
 use mir.Val.{Fits}
 use mir.Syntax.{w8}
@@ -38,6 +38,10 @@ Tests b n l =
 whole : (b : List ℕ) (l : LayoutOf) → ((i : ℕ) → Fits w8 (get_or b i 0)) → LayoutFor l (length b) → LengthFacts (length b) → Tests b l.n (layout_of (length b))
 whole b l g p r = sound-is b (λ i. omega (arith, g i)) l.n (omega arith) (omega arith) (omega arith)
 
+-- the bytes behind the first a are bytes too
+tail-octets : (b : List ℕ) (a : ℕ) → ((i : ℕ) → get_or b i 0 < 256) → (i : ℕ) → get_or (take (length b - a) (drop a b)) i 0 < 256
+tail-octets b a f i = rw (tail-is b {a = a} {k = a} refl, get_or-drop a b i 0) (f (a + i))
+
 pub returns-then-not-table_length : goal.returns-then-not-table_length
 returns-then-not-table_length c =
     let t = c.args.t.now in
@@ -68,14 +72,14 @@ returns-then-c-cycle c =
 pub slice_bounds-lines-count : goal.slice_bounds-lines-count
 slice_bounds-lines-count c = let r = length-facts (length c.args.t.now) (sym c.table_length.ensures ∙ c.if-not-table_length.false) in omega (arith, c.requires)
 
-pub slice_bounds-parts_sound-count : goal.slice_bounds-parts_sound-count
-slice_bounds-parts_sound-count c = let r = length-facts (length c.args.t.now) (sym c.table_length.ensures ∙ c.if-not-table_length.false) in omega (arith, c.requires)
+pub slice_bounds-slots-count : goal.slice_bounds-slots-count
+slice_bounds-slots-count c = let r = length-facts (length c.args.t.now) (sym c.table_length.ensures ∙ c.if-not-table_length.false) in omega (arith, c.requires)
 
 pub parts_sound-requires : goal.parts_sound-requires
 parts_sound-requires c =
     let r = length-facts (length c.args.t.now) (sym c.table_length.ensures ∙ c.if-not-table_length.false) in
     let p = c.requires in
-    (omega arith, omega arith, omega arith)
+    (omega arith, omega arith)
 
 pub returns : goal.returns
 returns c =
@@ -94,7 +98,7 @@ returns c =
       lt-ltb _ _ c.if-c-cycle.false,
       ← u,
     )
-    (sym (rw (tail-is t c.requires.1, tail-is (drop (lines_at (layout_of (length t))) t) refl, drop-drop) at c.parts_sound.ensures))))
+    (sym (rw (tail-is t (c.from.ensures ∙ c.requires.1), tail-is (drop (lines_at (layout_of (length t))) t) refl, drop-drop) at c.parts_sound.ensures))))
 
 pub slice_bounds-lines-start : goal.slice_bounds-lines-start
 slice_bounds-lines-start c =
@@ -102,8 +106,11 @@ slice_bounds-lines-start c =
     let p = c.requires in
     omega arith
 
-pub slice_bounds-parts_sound-start : goal.slice_bounds-parts_sound-start
-slice_bounds-parts_sound-start c =
+pub slice_bounds-slots-start : goal.slice_bounds-slots-start
+slice_bounds-slots-start c =
     let r = length-facts (length c.args.t.now) (sym c.table_length.ensures ∙ c.if-not-table_length.false) in
     let p = c.requires in
     omega arith
+
+pub invariant_of-slots-clause-octets : goal.invariant_of-slots-clause-octets
+invariant_of-slots-clause-octets c i = tail-octets _ 304 (tail-octets c.args.t.now c.from.result (λ i. omega (arith, c.type_inv.t i))) i

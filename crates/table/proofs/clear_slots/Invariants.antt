@@ -1,5 +1,5 @@
 -- `table::clear_slots` meets its contract. Assumes nothing.
-use Prim.Native.Nat.{◌-◌, ◌*◌, ◌≤◌}
+use Prim.Native.Nat.{◌*◌}
 use mathlib.Core.Path.{◌≡◌}
 use lib.ListN.{length}
 use Rattle.model.specs.Numbers.{splice}
@@ -7,7 +7,4 @@ use Rattle.table.specs.Fresh.{free_slots}
 use Rattle.table.proofs.clear_slots.Given as goal
 
 abbrev pub invariant-loop-i : goal.invariant-loop-i
-invariant-loop-i l = (l.i ≤ l.n) × (length l.slots ≡ length l.initial.slots) × (l.slots ≡ splice 0 (320 * l.i) (free_slots l.i) l.initial.slots)
-
-abbrev pub decreases-loop-i : goal.decreases-loop-i
-decreases-loop-i l = l.n - l.i
+invariant-loop-i l = (length l.slots ≡ length l.initial.slots) × (l.slots ≡ splice 0 (320 * l.i) (free_slots l.i) l.initial.slots)

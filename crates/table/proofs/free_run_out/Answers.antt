@@ -8,7 +8,15 @@ use Rattle.table.proofs.free_run_out.Goals as goal
 use Rattle.table.proofs.free_run_out.Goals.{then-run_out, else-run_out}
 
 pub loop-i-init : goal.loop-i-init
-loop-i-init c = (search rules, search rules, refl, sweep.sweep-start _ _ _ c.requires.1, search rules, λ j. omega (arith, c.type_inv.slots j))
+loop-i-init c = (search rules, refl, sweep.sweep-start _ _ _ c.requires.1, search rules, λ j. omega (arith, c.type_inv.slots j))
+
+pub invariant_of-slot : goal.invariant_of-slot
+invariant_of-slot c =
+    let l = c.loop-i in
+    let a = c.args in record {
+      fits = omega (arith, l.auto.slots, c.requires.0);
+      octets = sweep.turn-bytes a.slots.now l.invariant.4 a.n a.running l.i c.loop-i-test.true l.slots l.invariant.2;
+    }
 
 pub loop-i-preserved : goal.loop-i-preserved
 loop-i-preserved c =
@@ -18,20 +26,18 @@ loop-i-preserved c =
       | then-run_out w ↦
           let h = sym c.run_out.ensures ∙ w.if-run_out.true in (
             omega arith,
-            omega arith,
-            ap length w.slots-is ∙ w.end_entry.auto.slots ∙ l.invariant.2,
-            w.slots-is ∙ w.end_entry.ensures ∙ sweep.turn-hit a.slots.now l.invariant.5 a.n a.running l.i (omega arith) l.slots l.invariant.3 h,
-            rw w.k-is (sweep.count-hit a.slots.now l.invariant.5 a.n a.running l.i (omega arith) l.slots l.invariant.3 l.k h l.invariant.4),
-            l.invariant.5,
+            ap length w.slots-is ∙ w.end_entry.auto.slots ∙ l.invariant.1,
+            w.slots-is ∙ w.end_entry.ensures ∙ sweep.turn-hit a.slots.now l.invariant.4 a.n a.running l.i (omega arith) l.slots l.invariant.2 h,
+            rw w.freed-is (sweep.count-hit a.slots.now l.invariant.4 a.n a.running l.i (omega arith) l.slots l.invariant.2 l.freed h l.invariant.3),
+            l.invariant.4,
           )
       | else-run_out w ↦
           let h = sym c.run_out.ensures ∙ w.if-run_out.false in (
             omega arith,
-            omega arith,
-            ap length w.slots-is ∙ l.invariant.2,
-            w.slots-is ∙ sweep.turn-miss a.slots.now l.invariant.5 a.n a.running l.i (omega arith) l.slots l.invariant.3 h,
-            rw w.k-is (sweep.count-miss a.slots.now l.invariant.5 a.n a.running l.i (omega arith) l.slots l.invariant.3 l.k h l.invariant.4),
-            l.invariant.5,
+            ap length w.slots-is ∙ l.invariant.1,
+            w.slots-is ∙ sweep.turn-miss a.slots.now l.invariant.4 a.n a.running l.i (omega arith) l.slots l.invariant.2 h,
+            rw w.freed-is (sweep.count-miss a.slots.now l.invariant.4 a.n a.running l.i (omega arith) l.slots l.invariant.2 l.freed h l.invariant.3),
+            l.invariant.4,
           )
     ]
 
@@ -39,4 +45,4 @@ pub returns : goal.returns
 returns c =
     let l = c.loop-i in
     let a = c.args in
-    sweep.all-freed a.slots.now l.invariant.5 a.n a.running l.slots l.k l.i (omega arith) l.invariant.3 l.invariant.4
+    sweep.all-freed a.slots.now l.invariant.4 a.n a.running l.slots l.freed l.i (omega arith) l.invariant.2 l.invariant.3

@@ -1,5 +1,5 @@
 -- `table::free_run_out` meets its contract. Assumes nothing.
-use Prim.Native.Nat.{◌-◌, ◌≤◌}
+use Prim.Native.Nat.{◌≤◌}
 use mathlib.Core.Path.{◌≡◌}
 use lib.ListN.{length, take}
 use Rattle.model.specs.Lists.{count, flat}
@@ -11,8 +11,5 @@ use Rattle.model.specs.Numbers.{Bytes}
 use Rattle.table.proofs.free_run_out.Given as goal
 
 abbrev pub invariant-loop-i : goal.invariant-loop-i
-invariant-loop-i l = (l.i ≤ l.n) × (l.k ≤ l.i) × (length l.slots ≡ length l.initial.slots) × (l.slots ≡ flat slot_bytes (freed_to l.running (slots_to l.initial.slots l.n) l.i))
-    × (l.k ≡ count (take l.i (slots_to l.initial.slots l.n)) (slot_run_out l.running)) × Bytes l.initial.slots
-
-abbrev pub decreases-loop-i : goal.decreases-loop-i
-decreases-loop-i l = l.n - l.i
+invariant-loop-i l = (l.freed ≤ l.i) × (length l.slots ≡ length l.initial.slots) × (l.slots ≡ flat slot_bytes (freed_to l.running (slots_to l.initial.slots l.n) l.i))
+    × (l.freed ≡ count (take l.i (slots_to l.initial.slots l.n)) (slot_run_out l.running)) × Bytes l.initial.slots

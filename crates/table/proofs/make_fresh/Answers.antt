@@ -22,17 +22,11 @@ copy-requires c =
     let same = ap place_bytes c.requires.0.0 in
     (omega (arith, g.whole, g.few), omega (arith, g.whole, g.few))
 
-pub slice_bounds-clear_lines-count : goal.slice_bounds-clear_lines-count
-slice_bounds-clear_lines-count c = let same = ap place_bytes c.requires.0.0 in omega arith
-
 pub clear_lines-requires : goal.clear_lines-requires
 clear_lines-requires c =
     let g = given-roster c.args.l.n c.args.roster.now c.requires.2 in
     let same = ap place_bytes c.requires.0.0 in
     (omega (arith, g.few), omega (arith, g.few))
-
-pub slice_bounds-clear_slots-count : goal.slice_bounds-clear_slots-count
-slice_bounds-clear_slots-count c = let same = ap place_bytes c.requires.0.0 in omega arith
 
 pub returns : goal.returns
 returns c =
@@ -43,9 +37,3 @@ returns c =
     let slots = c.requires.0.2 ∙ ap base e in
     made.fresh-written a.roster.now bytes a.l.n c.requires.2 a.t.now _ a.place c.requires.1 c.clock_kind.ensures lines c.put8.ensures c.put_clock.ensures
     c.copy.ensures (tail_written _ _ _ _ lines c.clear_lines.ensures) (tail_written _ 0 _ _ slots c.clear_slots.ensures)
-
-pub slice_bounds-clear_lines-start : goal.slice_bounds-clear_lines-start
-slice_bounds-clear_lines-start c = let same = ap place_bytes c.requires.0.0 in omega arith
-
-pub slice_bounds-clear_slots-start : goal.slice_bounds-clear_slots-start
-slice_bounds-clear_slots-start c = let same = ap place_bytes c.requires.0.0 in omega arith

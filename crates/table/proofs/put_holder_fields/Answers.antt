@@ -7,5 +7,5 @@ use Rattle.table.proofs.put_holder_fields.Goals as goal
 
 pub returns : goal.returns
 returns c =
-    rw (← entry.halves-written c.args.e (omega (arith, c)), c.put64-3.ensures, c.put16.ensures, c.put64-2.ensures, c.put64.ensures, c.put8.ensures, c.kind_byte.ensures)
+    rw (← entry.halves-written c.args.e (omega (arith, c)), c.put64-3.ensures, c.put16.ensures, c.put64-2.ensures, c.put64.ensures, c.put8.ensures, c.from.ensures)
     (writes-eq (holder_halves c.args.e) 0 c.args.s.now (omega (arith, c)))

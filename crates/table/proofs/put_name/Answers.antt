@@ -12,5 +12,5 @@ pub returns : goal.returns
 returns c =
     let n = map fold (part c.args.at c.args.len c.args.d.now) in
     let e : length n ≡ c.args.len = entry.folded-length c.args.d.now c.args.at c.args.len c.requires.1 in
-    rw (c.clear.ensures, c.copy_folded.ensures, c.put8.ensures)
+    rw (c.clear.ensures, c.copy_folded.ensures, c.put8.ensures, c.from-n.ensures)
     (entry.name-bytes c.args.s.now n c.args.len e (omega (arith, c)) (omega (arith, c)))

@@ -1,9 +1,0 @@
--- `entries::not_granted` meets its contract. Assumes nothing.
-use Rattle.std.proofs.Common.{eq-eqb, ne_eqb}
-use Rattle.entries.proofs.not_granted.Goals as goal
-
-pub returns-then-x-eq0 : goal.returns-then-x-eq0
-returns-then-x-eq0 c = rw (eq-eqb _ _ c.if-x-eq0.true)
-
-pub returns : goal.returns
-returns c = rw (ne_eqb _ _ c.if-x-eq0.false) c.number_used.ensures
