@@ -1,5 +1,7 @@
--- The step as a signed number: the distance ahead below half a cycle, and a cycle less from there. One law for both cycles. Assumes nothing.
-use Rattle.std.proofs.Common.{◌≡◌, ℕ, ◌+◌, ◌-◌, ◌/◌, ◌^◌, ◌<◌, ◌≤◌, ℤ, pos, ◌-ℤ◌, sym, ap, ◌∙◌, arith, SFits, w64, to_z, of_z, le-ltb, lt-ltb, le-leb}
+-- The step as a signed number of a width: the distance ahead below half a cycle, and a cycle less from there. One law for both cycles. Assumes nothing.
+use Rattle.std.proofs.Common.{◌≡◌, ℕ, ◌+◌, ◌-◌, ◌/◌, ◌^◌, ◌<◌, ◌≤◌, ℤ, pos, ◌-ℤ◌, sym, ap, ◌∙◌, arith, SFits, to_z, of_z, le-ltb, lt-ltb, le-leb}
+use mir.Syntax.{Width}
+use mir.Val.{hbits}
 use mir.ValLaws.{to_z-of_z, to_z_pos}
 use borrow.Author.Tests.{lt-leb}
 use Rattle.model.specs.Clock.{step}
@@ -13,7 +15,7 @@ ahead-on c from to h = rw (le-leb from to h)
 pub ahead-around : (c from to : ℕ) → to < from → to + (c - from) ≡ ahead c from to
 ahead-around c from to h = rw (lt-leb from to h)
 
-module _ (c h : ℕ) (double : c ≡ h + h) (room : c < 2 ^ 63) (from to : ℕ) (hf : from < c) (ht : to < c) {a : ℕ} (is : a ≡ ahead c from to) where
+module _ (w : Width) (c h : ℕ) (double : c ≡ h + h) (room : c < 2 ^ hbits w) (from to : ℕ) (hf : from < c) (ht : to < c) {a : ℕ} (is : a ≡ ahead c from to) where
   half : c / 2 ≡ h
   half = omega arith
 
@@ -24,23 +26,23 @@ module _ (c h : ℕ) (double : c ≡ h + h) (room : c < 2 ^ 63) (from to : ℕ) 
   below = rw is (ahead-most c even from to hf ht)
 
   -- read as signed, it is itself
-  plain : to_z w64 a ≡ pos a
-  plain = let l = below in to_z_pos w64 a (omega arith)
+  plain : to_z w a ≡ pos a
+  plain = let l = below in to_z_pos w a (omega arith)
 
-  cycle : to_z w64 c ≡ pos c
-  cycle = to_z_pos w64 c (omega arith)
+  cycle : to_z w c ≡ pos c
+  cycle = to_z_pos w c (omega arith)
 
-  difference : to_z w64 a -ℤ to_z w64 c ≡ pos a -ℤ pos c
-  difference = ap (λ (z : ℤ). z -ℤ to_z w64 c) plain ∙ ap (λ (z : ℤ). pos a -ℤ z) cycle
+  difference : to_z w a -ℤ to_z w c ≡ pos a -ℤ pos c
+  difference = ap (λ (z : ℤ). z -ℤ to_z w c) plain ∙ ap (λ (z : ℤ). pos a -ℤ z) cycle
 
-  back_fits : SFits w64 (pos a -ℤ pos c)
+  back_fits : SFits w (pos a -ℤ pos c)
   back_fits = let l = below in record { sfits = diff-mag (diff-minus a c) (omega arith) (omega arith) }
 
-  pub step-on : a < h → to_z w64 a ≡ step c from to
+  pub step-on : a < h → to_z w a ≡ step c from to
   step-on l = let e = half in plain ∙ sym (step-natural c even from to hf ht ∙ (rw (← is, lt-ltb a (c / 2) (omega arith))))
 
-  pub step_back : h ≤ a → to_z w64 (of_z w64 (to_z w64 a -ℤ to_z w64 c)) ≡ step c from to
+  pub step_back : h ≤ a → to_z w (of_z w (to_z w a -ℤ to_z w c)) ≡ step c from to
   step_back l =
       let e = half in
-      ap (λ (z : ℤ). to_z w64 (of_z w64 z)) difference ∙ to_z-of_z w64 _ back_fits
+      ap (λ (z : ℤ). to_z w (of_z w z)) difference ∙ to_z-of_z w _ back_fits
       ∙ sym (step-natural c even from to hf ht ∙ (rw (← is, le-ltb a (c / 2) (omega arith))))

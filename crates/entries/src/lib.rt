@@ -1,7 +1,7 @@
 // What is read of a table's slots, where they lie. A slot is found by its first index, as the model finds it.
 #![tactic(auto)]
 
-ghost use Rattle.std.specs.Prelude.{ℕ, true, false, not, MatchOption, ◌≡◌, ◌<◌, ◌+◌, ◌*◌, ◌≤◌, ◌||◌, length, ◌==◌, nat_le};
+ghost use Rattle.std.specs.Prelude.{ℕ, true, false, not, MatchOption, ◌≡◌, ◌<◌, ◌+◌, ◌*◌, ◌^◌, ◌≤◌, ◌||◌, length, ◌==◌, nat_le};
 ghost use Rattle.model.specs.Table.{read_slot, listed};
 ghost use Rattle.model.specs.Rules.{numbered, full, fresh_number};
 ghost use Rattle.model.specs.Serve.{is_free, has, slot_run_out, in_span, answers, refreshes};
@@ -47,16 +47,24 @@ pub struct Found {
     pub entry: Entry,
 }
 
-// A slot as it is stored.
+// Who holds a slot's entry.
+fn sender_at(slot: Slot) -> Sender
+    ensures sender { result ≡ (entry_at slot.entry.bytes.now slot.entry.at).sender }
+    ensures low { result.address.low < 2 ^ 64 }
+{
+    Sender {
+        address: slot.address(),
+        port: slot.port(),
+    }
+}
+
+// A slot as it is stored. A finder reads it once, in the slot that it finds.
 fn entry_at(slot: Slot) -> Entry
     ensures { result ≡ entry_at slot.entry.bytes.now slot.entry.at }
 {
     Entry {
         state: State::from(slot.kind()),
-        sender: Sender {
-            address: slot.address(),
-            port: slot.port(),
-        },
+        sender: sender_at(slot),
         number: slot.number(),
         lease: slot.lease(),
         stamp: slot.stamp(),
@@ -66,19 +74,19 @@ fn entry_at(slot: Slot) -> Entry
     }
 }
 
-// The slot's entry is of this sender and asks this question. Its name is compared where it is stored.
+// The slot's entry is of this sender and asks this question: its fields are compared where they are stored, and so is its name.
 fn entry_asks(slot: Slot, asked: Asked) -> bool
     ensures { result ≡ asked_by asked.entry (holding_at 0 slot.entry.bytes.now slot.entry.at) }
 {
-    let e = entry_at(slot);
+    let sender = sender_at(slot);
     let q = asked.question;
-    if (e.sender, e.qtype, e.qclass) != (asked.sender, q.qtype, q.qclass) {
+    if (sender, slot.qtype(), slot.qclass()) != (asked.sender, q.qtype, q.qclass) {
         return false;
     }
     slot.has_name(asked.datagram, usize::from(q.start), usize::from(q.len))
 }
 
-// The slot has an entry of this sender and question: a setup finds it, pending or established. The address, or the number, is looked at first, in any slot: the entry is read only where it agrees. So for the two below.
+// The slot has an entry of this sender and question: a setup finds it, pending or established. The address, or the number, is looked at first, in any slot: more is read only where it agrees. So for the two below.
 fn slot_asks(slot: Slot, asked: Asked) -> bool
     ensures { result ≡ slot_has 0 (asked_by asked.entry) slot.entry }
 {

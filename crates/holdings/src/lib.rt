@@ -1,7 +1,7 @@
 // What a table's entries come to: how many an address holds, how many there are, and what is reserved to the listed addresses.
 #![tactic(auto)]
 
-ghost use Rattle.std.specs.Prelude.{◌≡◌, ℕ, Bool, ◌-◌, ◌*◌, ◌≤◌, ◌<◌, length, get_or};
+ghost use Rattle.std.specs.Prelude.{◌≡◌, ℕ, Bool, ◌-◌, ◌*◌, ◌≤◌, ◌<◌, length};
 ghost use Rattle.model.specs.Lists.{any};
 ghost use Rattle.model.specs.Table.{read_line};
 ghost use Rattle.model.specs.Rules.{Holding, held_by, reserve};
@@ -16,7 +16,6 @@ pub struct Slots<'a> {
     pub bytes: &'a [u8],
     pub n: usize,
     ghost fits: { 320 * n ≤ length bytes.now },
-    ghost octets: { (i : ℕ) → get_or bytes.now i 0 < 256 },
 }
 
 impl<'a> Slots<'a> {

@@ -107,12 +107,14 @@ pub fn zeros(s: &[u8], at: usize, n: usize) -> bool
     zero_both(s, at, at + (n - h), h)
 }
 
-// The n bytes of s from index from, copied to d at index at.
+// The n bytes of s from index from, copied to d at index at. A loop, which compiles to memcpy: `copy_from_slice` would have C's archive call memmove too.
 pub fn copy(d: &mut [u8], at: usize, s: &[u8], from: usize, n: usize)
     requires { (at + n ≤ length d.old) × (from + n ≤ length s.now) }
     ensures { d.new ≡ splice at n (part from n s.now) d.old }
 {
-    d[at..at + n].copy_from_slice(&s[from..from + n]);
+    for i in 0..n {
+        d[at + i] = s[from + i];
+    }
 }
 
 // The n bytes from index at become zeros.

@@ -16,7 +16,7 @@ use Rattle.model.specs.Clock.{age_at}
 use Rattle.model.specs.Query as query
 use Rattle.model.specs.Table as table
 use Rattle.model.specs.Table.{free, held, Layout, Table, running_at, lines_at, base, slot_at, layout_of, slots_in, size_of, read_table, read_slot, read_entry, slot_bytes, listed}
-use Rattle.model.specs.Rules.{Holding, holdings, full, granted_lease, fresh_number}
+use Rattle.model.specs.Rules.{asks, Holding, holdings, full, granted_lease, fresh_number}
 use Rattle.model.specs.Sound.{FitsEntry}
 use Rattle.model.specs.Serve as serve
 use Rattle.model.specs.Serve.{has, is_free, find_entry, slot_of, with_slot, life_left, new_entry, granted, on_setup, serve_setup, answers, establish, on_response, serve_response, refreshes, renew, on_refresh, serve_refresh, ended, serve_kind, serve_option, kind_of_option}
@@ -35,10 +35,9 @@ use Rattle.record.specs.declared.State.TheVariants.{Pending}
 use Rattle.record.specs.Address.{address_of}
 use Rattle.holdings.specs.declared.Slots.{Slots}
 use Rattle.holdings.specs.Slots.{held_in}
-use Rattle.entries.specs.declared.asked.Asked.{Asked}
 use Rattle.entries.specs.declared.Entry.{Entry}
+use Rattle.entries.specs.declared.Sender.{Sender}
 use Rattle.entries.specs.declared.Found.{Found}
-use Rattle.entries.specs.Asked.{question_asked, asked_by}
 use Rattle.entries.specs.Reads.{sender_of, entry_at, found_in, first_in}
 use Rattle.entries.proofs.Laws.{has-out, found-is, nothing_is}
 use Rattle.wire.specs.declared.LlqNumber.{LlqNumber}
@@ -163,12 +162,13 @@ module _ {b : List ℕ} {n : ℕ} (on : Formed b n) where
       ∙ sym (rw (slots-count b lay n size, roster-read b, holdings-read b n size)
       (held-full (big_endian b (running_at lay) 4) slots n n (lines_to (drop (lines_at lay) b) (listed (drop (lines_at lay) b) 16)) a))
 
-  module _ (asked : Asked) (o : LlqOption) where
+  module _ (s : Sender) (what : query.Question) (o : LlqOption) where
     abbrev who : serve.Sender
-    who = sender_of asked.sender
+    who = sender_of s
 
-    abbrev what : query.Question
-    what = question_asked asked
+    -- a holding is of the sender and asks the question
+    abbrev own : Holding → Bool
+    own = asks who.address s.port what
 
     -- GRANTED, with a number and a lease, where the slots are looked at
 
@@ -215,7 +215,7 @@ module _ {b : List ℕ} {n : ℕ} (on : Formed b n) where
             made =
                 record {
                   state = Pending;
-                  sender = asked.sender;
+                  sender = s;
                   number = number;
                   lease = lease;
                   stamp = stamp;
@@ -242,26 +242,26 @@ module _ {b : List ℕ} {n : ℕ} (on : Formed b n) where
     -- SETUP
 
     module _ (r : ℕ) where
-      asked-at : index_of (has 0 (asked_by asked)) (slots_to slots n) ≡ index_of (has (big_endian b (running_at lay) 4) (asked_by asked)) (slots_to slots n)
-      asked-at = sym (index-ageless (big_endian b (running_at lay) 4) (asked_by asked) (λ e. refl) (slots_to slots n))
+      asked-at : index_of (has 0 own) (slots_to slots n) ≡ index_of (has (big_endian b (running_at lay) 4) own) (slots_to slots n)
+      asked-at = sym (index-ageless (big_endian b (running_at lay) 4) own (λ e. refl) (slots_to slots n))
 
-      pub setup-found : {f : Found} → First (has 0 (asked_by asked)) f → {running : ℕ} → running ≡ big_endian b (running_at lay) 4 → {left : ℕ}
+      pub setup-found : {f : Found} → First (has 0 own) f → {running : ℕ} → running ≡ big_endian b (running_at lay) 4 → {left : ℕ}
           → left ≡ life_left f.entry.lease (age_at running f.entry.stamp) → {x : ServedOption} → x ≡ served_with o (out.Challenge f.entry.number left)
           → ServedAs (serve_setup who r what (option_of o) (read_table b)) b x
       unfolding serve_setup on_setup entry_at read_entry
       setup-found w rs k g =
-          served-by (ap (on_setup who r what (option_of o) (read_table b)) (found-slot (asked_by asked) (w.first ∙ asked-at) w.within))
+          served-by (ap (on_setup who r what (option_of o) (read_table b)) (found-slot own (w.first ∙ asked-at) w.within))
           (record { table = unwritten b formed; outcome = ap served_outcome g ∙ rw (k, rs, w.read, running-read b) })
 
       -- full, of the table
       abbrev full_now : Bool
       full_now = full (length (read_table b).slots) (read_table b).roster (count (holdings (read_table b))) who.address
 
-      module _ (l : n ≤ index_of (has 0 (asked_by asked)) (slots_to slots n)) where
+      module _ (l : n ≤ index_of (has 0 own) (slots_to slots n)) where
         lost : serve_setup who r what (option_of o) (read_table b)
             ≡ cond full_now (record { table = read_table b; outcome = serve.retry_later (option_of o) }) (grants r)
         unfolding serve_setup on_setup
-        lost = ap (on_setup who r what (option_of o) (read_table b)) (lost-slot (asked_by asked) asked-at l)
+        lost = ap (on_setup who r what (option_of o) (read_table b)) (lost-slot own asked-at l)
 
         pub setup-full : full_now ≡ true → {x : ServedOption} → x ≡ served_with o out.Full → ServedAs (serve_setup who r what (option_of o) (read_table b)) b x
         setup-full f g = served-by (lost ∙ rw f) (record { table = unwritten b formed; outcome = ap served_outcome g })

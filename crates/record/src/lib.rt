@@ -2,7 +2,7 @@
 // read and written. Here alone a place is read and written as 4 bytes or 8.
 #![tactic(auto)]
 
-ghost use Rattle.std.specs.Prelude.{ℕ, ◌≡◌, ◌&&◌, ◌∷◌, [], map, ◌+◌, ◌*◌, ◌^◌, ◌≤◌, ◌<◌, length, get_or, eqb};
+ghost use Rattle.std.specs.Prelude.{◌≡◌, ◌&&◌, ◌∷◌, [], map, ◌+◌, ◌*◌, ◌^◌, ◌≤◌, ◌<◌, length, get_or, eqb};
 ghost use Rattle.model.specs.Lists.{same};
 ghost use Rattle.model.specs.Numbers.{big_endian, bytes_of, part, splice, encode};
 ghost use Rattle.model.specs.Names.{fold};
@@ -132,7 +132,8 @@ pub struct Address {
 // The address whose 16 bytes start at a.
 pub fn address_at(t: &[u8], a: usize) -> Address
     requires { a + 16 ≤ length t.now }
-    ensures { address_of result ≡ big_endian t.now a 16 }
+    ensures number { address_of result ≡ big_endian t.now a 16 }
+    ensures halves { (result.high ≡ big_endian t.now a 8) × (result.low ≡ big_endian t.now (a + 8) 8) × (result.low < 2 ^ 64) }
 {
     Address {
         high: octets::get64(t, a),
@@ -151,30 +152,38 @@ pub fn has_address(t: &[u8], a: usize, address: Address) -> bool
     false
 }
 
+// 2 * 2^56: the kind 2 and seven zeros.
+const UNUSED_HEAD: u64 = Kind::Unused as u64 * 72057594037927936;
+
+// An unused line: its 19 bytes as three numbers of 8 that lie over each other. A function of the slice, as `same_asked` below: that a byte is below 256
+// a proof knows of an argument's bytes, and not of those behind a struct's field.
+fn unused_shape(t: &[u8], a: usize) -> bool
+    requires { a + 19 ≤ length t.now }
+    ensures { result ≡ unused_shape t.now a }
+{
+    if octets::get64(t, a) != UNUSED_HEAD {
+        return false;
+    }
+    if octets::get64(t, a + 8) != 0 {
+        return false;
+    }
+    octets::get64(t, a + 11) == 0
+}
+
 // A roster line, where it lies.
 #[derive(Clone, Copy)]
 pub struct Line<'a> {
     pub bytes: &'a [u8],
     pub at: usize,
     ghost fits: { at + 19 ≤ length bytes.now },
-    ghost octets: { (i : ℕ) → get_or bytes.now i 0 < 256 },
 }
 
-// 2 * 2^56: the kind 2 and seven zeros.
-const UNUSED_HEAD: u64 = Kind::Unused as u64 * 72057594037927936;
-
 impl<'a> Line<'a> {
-    // An unused line: its 19 bytes as three numbers of 8 that lie over each other.
+    // It is unused: its kind, and zeros.
     pub fn unused(self) -> bool
         ensures { result ≡ unused_shape self.entry.bytes.now self.entry.at }
     {
-        if octets::get64(self.bytes, self.at) != UNUSED_HEAD {
-            return false;
-        }
-        if octets::get64(self.bytes, self.at + 8) != 0 {
-            return false;
-        }
-        octets::get64(self.bytes, self.at + 11) == 0
+        unused_shape(self.bytes, self.at)
     }
 
     // It is of kind 0x03.
@@ -224,13 +233,33 @@ impl<'a> Line<'a> {
     }
 }
 
+// The entries of the slots at a and at c agree in port, type, class and name. Type and class are compared as one number.
+fn same_asked(t: &[u8], a: usize, c: usize) -> bool
+    requires { (a + 320 ≤ length t.now) × (c + 320 ≤ length t.now) }
+    ensures { result ≡ same_asked (holding_at 0 t.now a) (holding_at 0 t.now c) }
+{
+    if octets::get16(t, a + layout::PORT_AT) != octets::get16(t, c + layout::PORT_AT) {
+        return false;
+    }
+    if octets::get32(t, a + layout::TYPE_AT) != octets::get32(t, c + layout::TYPE_AT) {
+        return false;
+    }
+    let compared = names::compare_stored(
+        t,
+        a + layout::NAME_AT,
+        usize::from(t[a + layout::NAME_LENGTH_AT]),
+        c + layout::NAME_AT,
+        usize::from(t[c + layout::NAME_LENGTH_AT]),
+    );
+    compared.same
+}
+
 // A slot, where it lies.
 #[derive(Clone, Copy)]
 pub struct Slot<'a> {
     pub bytes: &'a [u8],
     pub at: usize,
     ghost fits: { at + 320 ≤ length bytes.now },
-    ghost octets: { (i : ℕ) → get_or bytes.now i 0 < 256 },
 }
 
 impl<'a> Slot<'a> {
@@ -278,7 +307,8 @@ impl<'a> Slot<'a> {
 
     // The address of its entry.
     pub fn address(self) -> Address
-        ensures { address_of result ≡ big_endian self.entry.bytes.now (self.entry.at + 1) 16 }
+        ensures number { address_of result ≡ big_endian self.entry.bytes.now (self.entry.at + 1) 16 }
+        ensures halves { (result.high ≡ big_endian self.entry.bytes.now (self.entry.at + 1) 8) × (result.low ≡ big_endian self.entry.bytes.now (self.entry.at + 9) 8) × (result.low < 2 ^ 64) }
     {
         address_at(self.bytes, self.at + layout::ADDRESS_AT)
     }
@@ -381,27 +411,11 @@ impl<'a> Slot<'a> {
         )
     }
 
-    // The entries of two slots of one table agree in port, type, class and name. Type and class are compared as one number.
+    // The entries of two slots of one table agree in port, type, class and name.
     pub fn same_asked(self, other: Slot) -> bool
         requires { other.bytes.now ≡ self.bytes.now }
         ensures { result ≡ same_asked (holding_at 0 self.entry.bytes.now self.entry.at) (holding_at 0 self.entry.bytes.now other.entry.at) }
     {
-        if self.port() != other.port() {
-            return false;
-        }
-        let t = self.bytes;
-        let a = self.at;
-        let c = other.at;
-        if octets::get32(t, a + layout::TYPE_AT) != octets::get32(t, c + layout::TYPE_AT) {
-            return false;
-        }
-        let compared = names::compare_stored(
-            t,
-            a + layout::NAME_AT,
-            usize::from(self.name_length()),
-            c + layout::NAME_AT,
-            usize::from(other.name_length()),
-        );
-        compared.same
+        same_asked(self.bytes, self.at, other.at)
     }
 }

@@ -1,7 +1,7 @@
 // Roster lines, one after the other: the rules of a roster, and what the lines say of an address. They start with the first of them: in a table's part, or in a roster by itself.
 #![tactic(auto)]
 
-ghost use Rattle.std.specs.Prelude.{ℕ, ◌≡◌, not, ◌&&◌, ◌*◌, ◌≤◌, ◌<◌, length, get_or, eqb};
+ghost use Rattle.std.specs.Prelude.{◌≡◌, not, ◌&&◌, ◌*◌, ◌≤◌, ◌<◌, length, get_or, eqb};
 ghost use Rattle.model.specs.Lists.{every, no_two};
 ghost use Rattle.model.specs.Table.{read_line, listed};
 ghost use Rattle.model.specs.Rules.{limit_of, share_of, shares};
@@ -46,7 +46,6 @@ pub struct Lines<'a> {
     pub bytes: &'a [u8],
     pub count: usize,
     ghost fits: { 19 * count ≤ length bytes.now },
-    ghost octets: { (i : ℕ) → get_or bytes.now i 0 < 256 },
 }
 
 impl<'a> Lines<'a> {

@@ -48,10 +48,14 @@ fn say_number(n: u64) {
     io::print_decimal(1, n);
 }
 
-// The bytes in hexadecimal.
+// The bytes in hexadecimal, eight at a time: each printing is a write to standard output. Where fewer than eight are left, one by one.
 fn say_bytes(s: &[u8]) {
     say(b" ");
-    for &b in s {
+    let (words, rest) = s.as_chunks::<8>();
+    for &word in words {
+        io::print_hex(1, u64::from_be_bytes(word), 16);
+    }
+    for &b in rest {
         io::print_hex(1, u64::from(b), 2);
     }
 }

@@ -3,6 +3,7 @@
 
 ghost use Rattle.std.specs.Prelude.{ℕ, ◌≡◌, true, false, ◌&&◌, ◌+◌, ◌*◌, ◌≤◌, ◌<◌, length, leb};
 ghost use Rattle.model.specs.Lists.{any, every, no_two};
+ghost use Rattle.model.specs.Numbers.{Bytes};
 ghost use Rattle.model.specs.Rules.{limit_of, share_of, reserve};
 ghost use Rattle.model.specs.Rules.{shares as shares_of};
 ghost use Rattle.model.specs.Sound.{valid_line, valid_entry, same_number, same_address, sound_roster, sound_bytes};
@@ -52,6 +53,7 @@ fn records_good(lines: Lines, slots: Slots, running: u32) -> bool
 // Each entry passes a test against the entries below it, of which those that end in another byte need not be looked at: the test is given the slot to look from, and the entry's own. `last` is where the byte lies in a slot.
 fn each_passes<F: Fn(usize, usize) -> bool>(slots: Slots, last: usize, passes: F) -> bool
     requires places { (slots.n ≤ 64) × (last < 320) }
+    requires octets { Bytes slots.bytes.now }
     requires callable { (from i : ℕ) → LooksFrom slots last from i → F.pre passes from i }
     ensures passed { result ≡ true → (i : ℕ) → HasEntry slots.entry i → (from : ℕ) × F.post passes from i true }
     ensures failed { result ≡ false → (i from : ℕ) × HasEntry slots.entry i × F.post passes from i false }
@@ -85,12 +87,14 @@ fn beyond_share(share: u8, limit: u8, k: usize) -> Option<bool>
     None
 }
 
-// A table's lines and slots, where each line meets a line's rules and their addresses differ: what the rules of several entries are judged by.
+// A table's lines and slots, where each line meets a line's rules and their addresses differ: what the rules of several entries are judged by. That a byte
+// is below 256 is said here and not in `Slots`, which asks no more than the room: a proof knows it of an argument's bytes, and not of those behind a field.
 #[derive(Clone, Copy)]
 struct Table<'a> {
     lines: Lines<'a>,
     slots: Slots<'a>,
     ghost most: { (lines.count ≤ 16) × (slots.n ≤ 64) },
+    ghost octets: { Bytes slots.bytes.now },
     ghost valid: { every valid_line (lines_of lines) ≡ true },
     ghost apart: { no_two same_address (lines_of lines) ≡ true },
 }
@@ -243,7 +247,7 @@ impl<'a> Table<'a> {
 
 // The rules of a roster, and those of several entries.
 fn rules_sound(lines: Lines, slots: Slots) -> bool
-    requires { (lines.count ≤ 16) × (slots.n ≤ 64) }
+    requires { (lines.count ≤ 16) × (slots.n ≤ 64) × Bytes slots.bytes.now }
     ensures { result ≡ (sound_roster slots.entry.n (lines_of lines.entry) && entries_sound slots.entry lines.entry) }
 {
     if !lines.good() {
@@ -258,7 +262,7 @@ fn rules_sound(lines: Lines, slots: Slots) -> bool
 
 // The rules of a table's lines and slots, each record by itself first. `bytes` start with the lines.
 fn parts_sound(bytes: &[u8], slots: Slots, running: u32) -> bool
-    requires { (304 ≤ length bytes.now) × (slots.n ≤ 64) }
+    requires { (304 ≤ length bytes.now) × (slots.n ≤ 64) × Bytes slots.bytes.now }
     ensures { result ≡ (parts_shape bytes.now slots.entry.bytes.now slots.entry.n && rules_of running bytes.now slots.entry.bytes.now slots.entry.n) }
 {
     let lines = Lines::listed(bytes);

@@ -16,9 +16,8 @@ use Rattle.model.specs.Sound.{FitsSlot}
 use Rattle.model.specs.Serve.{with_clock, with_slots, slot_run_out, free_if_run_out, free_run_out, moved_on, ended}
 use Rattle.model.specs.Calls.{freed_by}
 use Rattle.model.proofs.ListLaws.{count-append, get_or-any, length-up_to, get_or-up_to}
-use Rattle.model.proofs.NumberLaws.{bytes-nil, bytes-append}
 use Rattle.model.proofs.SlotLaws.{length-slot, fits-short, slot-back}
-use Rattle.model.proofs.TableLaws.{bytes-slot, flat-cut, flat-set, length_front, clock_fields}
+use Rattle.model.proofs.TableLaws.{flat-cut, flat-set, length_front, clock_fields}
 use Rattle.model.proofs.Meaning.{fits_read, fits-slot, lines-read}
 use Rattle.model.proofs.StepLaws.{freed-fits, fits-free}
 use Rattle.layout.specs.Shape.{slots_to}
@@ -78,11 +77,6 @@ module _ (s : List Slot) (fits : (j : ℕ) → j < length s → FitsSlot (get_or
 
   row-set : (i : ℕ) (x : Slot) → i < length s → splice (320 * i) 320 (slot_bytes x) (flat slot_bytes s) ≡ flat slot_bytes (set s i x)
   row-set i x l = ap (λ (k : ℕ). splice k 320 (slot_bytes x) (flat slot_bytes s)) (sym (zero-add (320 * i))) ∙ flat-set slot_bytes 320 s rows [] 0 i x refl l
-
-slots-bytes : (s : List Slot) → ((j : ℕ) → j < length s → FitsSlot (get_or s j free)) → Bytes (flat slot_bytes s)
-unfolding flat
-slots-bytes [] f = bytes-nil
-slots-bytes (x ∷ s) f = bytes-append (slot_bytes x) (flat slot_bytes s) (bytes-slot x (f 0 (omega arith))) (slots-bytes s (λ j l. f (suc j) (omega arith)))
 
 -- A TURN OF THE SWEEP
 
@@ -144,9 +138,6 @@ module _ (b : List ℕ) (bytes : Bytes b) (n r : ℕ) where
   module _ (i : ℕ) (l : i < n) (x : List ℕ) (inv : x ≡ flat slot_bytes (freed_to r slots i)) where
     inside : i < length slots
     inside = rw long l
-
-    pub turn-bytes : Bytes x
-    turn-bytes = rw inv (slots-bytes (freed_to r slots i) (still-fits r slots fit i inside x inv))
 
     test : (v : Bool) → slot_run_out r (read_slot x (320 * i)) ≡ v → slot_run_out r (get_or slots i free) ≡ v
     test v h = sym (ap (slot_run_out r) (freed-read r slots fit i inside x inv)) ∙ h

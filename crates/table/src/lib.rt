@@ -19,7 +19,7 @@ ghost use Rattle.table.specs.Fresh.{unused_lines, free_slots, fresh};
 use clock::Clock;
 use entries::Entry;
 use layout::{Kind, Layout};
-use record::Slot;
+use record::{Slot, State};
 
 // WRITERS OF A SLOT
 
@@ -29,7 +29,7 @@ pub fn end_entry(slots: &mut [u8], i: usize)
     ensures { slots.new ≡ splice (320 * i) 320 (slot_bytes ended) slots.old }
 {
     let a = layout::SLOT * i;
-    octets::put8(slots, a, Kind::Free as u8);
+    octets::put8(slots, a, u8::from(State::Free));
     octets::clear(slots, a + 1, layout::SLOT_BODY);
 }
 
@@ -94,7 +94,7 @@ pub fn establish_at(slots: &mut [u8], i: usize)
     ensures { slots.new ≡ splice (320 * i) 1 (bytes_of 1 (kind_of true)) slots.old }
 {
     let a = layout::SLOT * i;
-    octets::put8(slots, a, Kind::Established as u8)
+    octets::put8(slots, a, u8::from(State::Established))
 }
 
 // The entry of slot i gets a lease and a stamp.

@@ -195,9 +195,12 @@ impl Cursor {
     pub fn option(self, s: &[u8]) -> Option<(OptionRead, Cursor)>
         ensures { result ≡ read_option s.now self.at }
     {
-        let (code, next) = self.number(s)?;
-        let (size, data) = next.number(s)?;
-        let size = usize::from(size);
+        if !self.holds(s, 4) {
+            return None;
+        }
+        let code = octets::get16(s, self.at);
+        let size = usize::from(octets::get16(s, self.at + 2));
+        let data = Cursor { at: self.at + 4 };
         if !data.holds(s, size) {
             return None;
         }

@@ -1,13 +1,16 @@
 -- The proof of `copy`. Assumes nothing.
-use Prim.Native.Nat.{◌+◌, ◌-◌}
 use native.Mathlib.Omega.{arith}
-use mathlib.Core.Path.{◌≡◌, refl}
+use mathlib.Core.Path.{refl, sym}
+use lib.ListN.{length-set}
 use Rattle.model.specs.Numbers.{part}
-use Rattle.model.proofs.NumberLaws.{lent_is}
+use Rattle.model.proofs.NumberLaws.{copy_step, splice-none}
 use Rattle.octets.proofs.copy.Goals as goal
 
-pub returns : goal.returns
+pub loop-i-init : goal.loop-i-init
 unfolding part
-returns c =
-    let e : c.args.from + c.args.n - c.args.from ≡ c.args.n = omega arith in
-    lent_is _ c.args.n refl (rw e at c.copy_from_slice.ensures.after)
+loop-i-init c = (omega arith, refl, sym (splice-none _ _))
+
+pub loop-i-preserved : goal.loop-i-preserved
+loop-i-preserved c =
+    let l = c.loop-i in
+    (omega arith, simp length-set (omega arith), rw l.invariant.2 (copy_step _ _ l.i _ _ (omega arith) (omega arith)))

@@ -3,5 +3,5 @@ use mathlib.Core.Path.{sym}
 use Rattle.layout.proofs.AddressLaws.{big-halves}
 use Rattle.record.proofs.address_at.Goals as goal
 
-pub returns : goal.returns
-returns c = rw (c.get64.ensures, c.get64-2.ensures) (sym (big-halves c.args.t.now c.args.a))
+pub returns-clause-number : goal.returns-clause-number
+returns-clause-number c = rw (c.get64.ensures, c.get64-2.ensures) (sym (big-halves c.args.t.now c.args.a))

@@ -18,7 +18,7 @@ loop-i-preserved g c =
       | then-in_use+else-not-passes w ↦
           let p = w.min-from.result in
           let e = rw (c.slot-slot.ensures.0, c.slot-slot.ensures.1) at w.from-end.ensures in
-          let f = firsts-held b c.args.last l.i l.first l.invariant.2 w.from-end.result p e (rw w.from.ensures at w.min-from.ensures) (omega (arith, e, c.args.slots.octets (320 * l.i + c.args.last))) in
+          let f = firsts-held b c.args.last l.i l.first l.invariant.2 w.from-end.result p e (rw w.from.ensures at w.min-from.ensures) (omega (arith, e, c.requires.octets (320 * l.i + c.args.last))) in
           (omega arith, rw (w.first-is, length-set) l.invariant.1, rw w.first-is f, below_more _ l.i l.invariant.3 (λ h. (p, rw w.if-not-passes.false at w.passes.ensures)))
       | else-in_use w ↦
           let f = firsts-free b c.args.last l.i l.first l.invariant.2 (u ∙ w.if-in_use.false) in

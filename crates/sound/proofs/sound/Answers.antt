@@ -79,7 +79,7 @@ pub parts_sound-requires : goal.parts_sound-requires
 parts_sound-requires c =
     let r = length-facts (length c.args.t.now) (sym c.table_length.ensures ∙ c.if-not-table_length.false) in
     let p = c.requires in
-    (omega arith, omega arith)
+    (omega arith, omega arith, tail-octets _ 304 (tail-octets c.args.t.now c.from.result (λ i. omega (arith, c.type_inv.t i))))
 
 pub returns : goal.returns
 returns c =
@@ -111,6 +111,3 @@ slice_bounds-slots-start c =
     let r = length-facts (length c.args.t.now) (sym c.table_length.ensures ∙ c.if-not-table_length.false) in
     let p = c.requires in
     omega arith
-
-pub invariant_of-slots-clause-octets : goal.invariant_of-slots-clause-octets
-invariant_of-slots-clause-octets c i = tail-octets _ 304 (tail-octets c.args.t.now c.from.result (λ i. omega (arith, c.type_inv.t i))) i

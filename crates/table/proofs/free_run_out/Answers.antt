@@ -10,14 +10,6 @@ use Rattle.table.proofs.free_run_out.Goals.{then-run_out, else-run_out}
 pub loop-i-init : goal.loop-i-init
 loop-i-init c = (search rules, refl, sweep.sweep-start _ _ _ c.requires.1, search rules, λ j. omega (arith, c.type_inv.slots j))
 
-pub invariant_of-slot : goal.invariant_of-slot
-invariant_of-slot c =
-    let l = c.loop-i in
-    let a = c.args in record {
-      fits = omega (arith, l.auto.slots, c.requires.0);
-      octets = sweep.turn-bytes a.slots.now l.invariant.4 a.n a.running l.i c.loop-i-test.true l.slots l.invariant.2;
-    }
-
 pub loop-i-preserved : goal.loop-i-preserved
 loop-i-preserved c =
     let l = c.loop-i in

@@ -4,4 +4,4 @@ use Rattle.record.proofs.Line.address.Goals as goal
 
 pub returns : goal.returns
 unfolding read_line
-returns c = c.address_at.ensures
+returns c = c.address_at.ensures.number

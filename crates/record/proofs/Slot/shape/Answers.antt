@@ -15,7 +15,7 @@ returns-else-kind-from c = rw (← c.kind-kind.ensures, sym c.in_use.ensures ∙
 pub overflow_sub-from : goal.overflow_sub-from
 overflow_sub-from c =
     elim c.if-in_use.branch [
-      | then-in_use w ↦ omega (arith, w.from-is, w.from.ensures, w.name_length.ensures, c.args.self.octets (c.args.self.at + 39))
+      | then-in_use w ↦ omega (arith, w.from-is, w.from.ensures, w.name_length.type_inv)
       | else-in_use+then-kind-from w ↦ omega (arith, w.from-is)
     ]
 

@@ -21,7 +21,7 @@ unfolding holding_at read_entry
 loop-j-init c =
     let a = c.args in
     let k = holding_at 0 a.self.slots.bytes.now (320 * a.i) in
-    let e = sym (rw (c.slot-own.ensures.0, c.slot-own.ensures.1) at c.address-address.ensures) in
+    let e = sym (rw (c.slot-own.ensures.0, c.slot-own.ensures.1) at c.address-address.ensures.number) in
     let n = c.requires.2 in
     (search rules, search rules, none-asks k _ n, rw e at (sym (every-not (held_by k.address) _ n)))
 
@@ -33,7 +33,7 @@ returns-then-same_asked c =
     let u = in_use (get_or a.self.slots.bytes.now (320 * l.j) 0) in
     let h = holding_at 0 a.self.slots.bytes.now (320 * l.j) in
     let k = holding_at 0 a.self.slots.bytes.now (320 * a.i) in
-    let e = sym (rw (c.slot-own.ensures.0, c.slot-own.ensures.1) at c.address-address.ensures) in
+    let e = sym (rw (c.slot-own.ensures.0, c.slot-own.ensures.1) at c.address-address.ensures.number) in
     let s = same_asked_lem u h k _ e (sym (rw (c.slot-slot.ensures.0, c.slot-slot.ensures.1) at c.has_holder.ensures) ∙ c.if-has_holder.true) (sym (rw (c.slot-slot.ensures.0, c.slot-slot.ensures.1, c.slot-own.ensures.1) at c.same_asked.ensures) ∙ c.if-same_asked.true) in
     rw (every-no 0 a.self.slots.bytes.now a.i l.j (omega arith) (λ x. not (same_question x k)) s)
 
@@ -45,7 +45,7 @@ loop-j-preserved c =
     let u = in_use (get_or a.self.slots.bytes.now (320 * l.j) 0) in
     let h = holding_at 0 a.self.slots.bytes.now (320 * l.j) in
     let k = holding_at 0 a.self.slots.bytes.now (320 * a.i) in
-    let e = sym (rw (c.slot-own.ensures.0, c.slot-own.ensures.1) at c.address-address.ensures) in
+    let e = sym (rw (c.slot-own.ensures.0, c.slot-own.ensures.1) at c.address-address.ensures.number) in
     let b = sym (rw (c.slot-slot.ensures.0, c.slot-slot.ensures.1) at c.has_holder.ensures) in
     elim c.if-has_holder.branch [
       | then-has_holder+else-same_asked w ↦
@@ -61,6 +61,6 @@ unfolding holding_at read_entry
 returns c =
     let l = c.loop-j in
     let a = c.args in
-    let f = sym (rw (c.slot-own.ensures.0, c.slot-own.ensures.1) at c.address-address.ensures) in
+    let f = sym (rw (c.slot-own.ensures.0, c.slot-own.ensures.1) at c.address-address.ensures.number) in
     let e : l.j ≡ a.i = omega arith in
     rw (rw e at l.invariant.2, f, ← (rw e at l.invariant.3)) c.may_add.ensures

@@ -1,12 +1,13 @@
--- `record::Line::unused` meets its contract: the kind and the zeros as three numbers. Assumes nothing.
+-- `record::unused_shape` meets its contract: the kind and the zeros as three numbers. Assumes nothing.
+use native.Mathlib.Omega.{arith}
 use borrow.Author.Tests.{eq-eqb, ne_eqb}
 use Rattle.record.proofs.FieldLaws.{unused-is}
-use Rattle.record.proofs.Line.unused.Goals as goal
+use Rattle.record.proofs.unused_shape.Goals as goal
 
 pub returns-then-get64-ne-UNUSED_HEAD : goal.returns-then-get64-ne-UNUSED_HEAD
 returns-then-get64-ne-UNUSED_HEAD c =
     rw (
-      unused-is c.args.self.bytes.now c.args.self.at c.args.self.octets c.args.self.fits,
+      unused-is c.args.t.now c.args.a (λ i. omega (arith, c.type_inv.t i)) c.requires,
       ← c.get64.ensures,
       ne_eqb _ _ c.if-get64-ne-UNUSED_HEAD.true,
     )
@@ -14,7 +15,7 @@ returns-then-get64-ne-UNUSED_HEAD c =
 pub returns-then-get64-ne0 : goal.returns-then-get64-ne0
 returns-then-get64-ne0 c =
     rw (
-      unused-is c.args.self.bytes.now c.args.self.at c.args.self.octets c.args.self.fits,
+      unused-is c.args.t.now c.args.a (λ i. omega (arith, c.type_inv.t i)) c.requires,
       ← c.get64.ensures,
       eq-eqb _ _ c.if-get64-ne-UNUSED_HEAD.false,
       ← c.get64-2.ensures,
@@ -24,7 +25,7 @@ returns-then-get64-ne0 c =
 pub returns : goal.returns
 returns c =
     rw (
-      unused-is c.args.self.bytes.now c.args.self.at c.args.self.octets c.args.self.fits,
+      unused-is c.args.t.now c.args.a (λ i. omega (arith, c.type_inv.t i)) c.requires,
       ← c.get64.ensures,
       eq-eqb _ _ c.if-get64-ne-UNUSED_HEAD.false,
       ← c.get64-2.ensures,
