@@ -22,6 +22,7 @@ use Rattle.roster.specs.declared.Lines.{Lines}
 use Rattle.roster.specs.Lines.{lines_of}
 use Rattle.holdings.specs.declared.Slots.{Slots}
 use Rattle.holdings.specs.Slots.{held_in}
+use Rattle.entries.specs.declared.Entry.{Entry}
 use Rattle.entries.specs.declared.Found.{Found}
 use Rattle.entries.specs.Reads.{sent, entry_at, found_at, none_to}
 
@@ -79,13 +80,19 @@ free-is b i {u} {v} h e = e ∙ ap not h ∙ go (in_use (get_or b (320 * i) 0)) 
 
 -- n SLOTS, the first that passes a test
 
--- none of the slots below i passes
-pub none_below : (b : List ℕ) (q : Slot → Bool) (i : ℕ) → ((k : ℕ) → k < i → false ≡ q (read_slot b (320 * k))) → none_to b q i
+-- none of the slots below i, and so none below i + 1
+pub none_yet : (b : List ℕ) (q : Slot → Bool) → none_to b q 0
 unfolding none_to
-none_below b q zero h = rw (up_to-none (λ j. read_slot b (320 * j))) (every-nil (λ s. not (q s)))
-none_below b q (suc i) h =
-    let here : false ≡ q (read_slot b (320 * i)) = h i (omega arith) in
-    rw (← add-one, every-next i (λ j. read_slot b (320 * j)) (λ s. not (q s)), none_below b q i (λ k l. h k (omega arith)), ← here)
+none_yet b q = rw (up_to-none (λ j. read_slot b (320 * j))) (every-nil (λ s. not (q s)))
+
+pub none-still : (b : List ℕ) (q : Slot → Bool) (i : ℕ) → q (read_slot b (320 * i)) ≡ false → none_to b q i → none_to b q (i + 1)
+unfolding none_to
+none-still b q i f e = rw (every-next i (λ j. read_slot b (320 * j)) (λ s. not (q s)), e, f)
+
+-- by what the test of each of them gave
+pub none_below : (b : List ℕ) (q : Slot → Bool) (i : ℕ) → ((k : ℕ) → k < i → false ≡ q (read_slot b (320 * k))) → none_to b q i
+none_below b q zero h = none_yet b q
+none_below b q (suc i) h = rw (← add-one) (none-still b q i (sym (h i (omega arith))) (none_below b q i (λ k l. h k (omega arith))))
 
 module _ (b : List ℕ) (n : ℕ) (q : Slot → Bool) where
   -- the first slot that passes, by what the tests of the slots gave
@@ -107,12 +114,23 @@ module _ (b : List ℕ) (n : ℕ) (q : Slot → Bool) where
   within-first None h = rw (index-none-here (λ k l. h k (omega arith) l), le-ltb n n (omega arith))
   within-first (Some i) h = rw (index-here i h.1 (h.2, λ k l. h.3 k (omega arith) l), lt-ltb i n h.1)
 
+  -- a finder's two ways out
+  pub slot-found : (i : ℕ) → i < n → none_to b q i → q (read_slot b (320 * i)) ≡ true → (e : Entry) → e ≡ entry_at b (320 * i)
+      → Some (record { slot = i; entry = e }) ≡ found_at b n (index_of q (slots_to b n))
+  unfolding none_to
+  slot-found i l f g e h = rw (index-up_to q n i (λ j. read_slot b (320 * j)) f g l, lt-ltb i n l, h)
+
+  pub nothing-found : none_to b q n → None ≡ found_at b n (index_of q (slots_to b n))
+  unfolding none_to
+  nothing-found f = rw (index-up_to-none q n (λ j. read_slot b (320 * j)) f, le-ltb n n (omega arith))
+
+  -- as the contract of the search says it
   pub found-first : {No : ℕ → Type 0} {Yes : Found → Type 0} → (r : Option Found) → MatchOption r ((k : ℕ) → k < n → No k)
       (λ f. (f.slot < n) × (f.entry ≡ entry_at b (320 * f.slot)) × Yes f × ((k : ℕ) → k < f.slot → No k))
       → ((k : ℕ) → No k → false ≡ q (read_slot b (320 * k))) → ((f : Found) → Yes f → true ≡ q (read_slot b (320 * f.slot)))
       → r ≡ found_at b n (index_of q (slots_to b n))
-  found-first None h none some = rw (index-none-here (λ k l. none k (h k l)), le-ltb n n (omega arith))
-  found-first (Some f) h none some = rw (index-here f.slot h.0 (some f h.2, λ k l. none k (h.3 k l)), lt-ltb f.slot n h.0, ← h.1)
+  found-first None h none some = nothing-found (none_below b q n (λ k l. none k (h k l)))
+  found-first (Some f) h none some = slot-found f.slot h.0 (none_below b q f.slot (λ k l. none k (h.3 k l))) (sym (some f h.2)) f.entry h.1
 
 -- WHAT WAS FOUND, told by what a finder gave
 

@@ -74,7 +74,7 @@ fn entry_at(slot: Slot) -> Entry
     }
 }
 
-// The slot's entry is of this sender and asks this question: its fields are compared where they are stored, and so is its name.
+// The slot's entry is of this sender and asks this question. Its name is compared where it is stored.
 fn entry_asks(slot: Slot, asked: Asked) -> bool
     ensures { result ≡ asked_by asked.entry (holding_at 0 slot.entry.bytes.now slot.entry.at) }
 {
