@@ -47,7 +47,7 @@ pub struct Found {
     pub entry: Entry,
 }
 
-// Who holds a slot's entry.
+// Who holds a slot's entry. Of `low` see `record::address_at`.
 fn sender_at(slot: Slot) -> Sender
     ensures sender { result ≡ (entry_at slot.entry.bytes.now slot.entry.at).sender }
     ensures low { result.address.low < 2 ^ 64 }

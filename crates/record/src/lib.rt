@@ -129,7 +129,7 @@ pub struct Address {
     pub low: u64,
 }
 
-// The address whose 16 bytes start at a.
+// The address whose 16 bytes start at a. That the low half is below 2^64 its type says; a caller's proof does not see it behind the struct.
 pub fn address_at(t: &[u8], a: usize) -> Address
     requires { a + 16 ≤ length t.now }
     ensures number { address_of result ≡ big_endian t.now a 16 }
